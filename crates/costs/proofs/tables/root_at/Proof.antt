@@ -1,0 +1,105 @@
+-- `costs::tables::root_at` meets its contract. Assumes nothing.
+use Prim.Native.Nat.{_+_, _*_, _^_, _≤_, _<_}
+use mathlib.Core.Path.{_≡_, ap, _∙_}
+use native.Mathlib.Nat.{mul-le-mul}
+use native.Mathlib.Omega.{arith}
+use Rattle.costs.specs.Raw.{pixels}
+use Rattle.costs.specs.Roots.{rootBits}
+use Rattle.costs.proofs.Readings.{cells-most}
+use Rattle.costs.proofs.Turns.{column-in, row-in, no-column, no-row, levels-corners, squares-corners, squares-below, square-most, root-is}
+use Rattle.costs.proofs.tables.root_at.Statement.{statement}
+use borrow.Author.Needs.{needs}
+use Rattle.costs.proofs.tables.root_at.Tie as tie
+
+below : (c : tie.After-window-sum2) → pixels (c .before .before .before .before .before .args .r) * c .window-sum2 .result < 2 ^ 53
+below c =
+    squares-below _ _ _ _ _ (c .before .before .before .if1 .left) (c .before .before .if2 .left) _ (c .before .before .before .before .before .pre .held) _ _ (c .before .window-sum .ensures) (c .window-sum2 .ensures)
+    (c .before .before .before .before .before .pre .frame .r-most)
+
+add-side : tie.Need-add-side
+add-side c = search needs
+
+rem-column : tie.Need-rem-column
+rem-column c = search needs
+
+div-row : tie.Need-div-row
+div-row c = search needs
+
+mul-if1 : tie.Need-mul-if1
+mul-if1 c = search needs
+
+add-if1 : tie.Need-add-if1
+add-if1 c = let z = c .before in omega (arith, column-in (z .args .w) (z .args .i))
+
+returns : tie.Need-returns
+returns c = λ pic t. no-column _ _ _ pic _ (c .if1 .taken)
+
+mul-if2 : tie.Need-mul-if2
+mul-if2 c = search needs
+
+add-if2 : tie.Need-add-if2
+add-if2 c = let z = c .before .before in omega (arith, row-in (z .args .w) (z .args .h) (z .args .i) (z .pre .among), z .pre .frame)
+
+returns-2 : tie.Need-returns-2
+returns-2 c = λ pic t. no-row _ _ _ pic _ (c .before .if1 .left) (c .if2 .taken)
+
+mul-n : tie.Need-mul-n
+mul-n c = search needs
+
+add-n : tie.Need-add-n
+add-n c = search needs
+
+window-sum-requires : tie.Need-window-sum-requires
+window-sum-requires c κs = levels-corners _ _ _ _ _ (c .before .if1 .left) (c .if2 .left) _ (c .before .before .before .pre .held)
+
+add-window-sum : tie.Need-add-window-sum
+add-window-sum c = search needs
+
+mul-window-sum : tie.Need-mul-window-sum
+mul-window-sum c = search needs
+
+add-window-sum-2 : tie.Need-add-window-sum-2
+add-window-sum-2 c = let z = c .before .before .before .before in omega (arith, z .pre .among, z .pre .frame, cells-most (z .args .w) (z .args .h) (z .pre .frame .w-most) (z .pre .frame .h-most))
+
+window-sum-requires-2 : tie.Need-window-sum-requires-2
+window-sum-requires-2 c κs = squares-corners _ _ _ _ _ (c .before .before .if1 .left) (c .before .if2 .left) _ (c .before .before .before .before .pre .held)
+
+mul-variance : tie.Need-mul-variance
+mul-variance c = let z = c .before .before .before .before .before in let side : 2 * z .args .r + 1 ≤ 31 = omega (arith, z .pre .frame .r-most) in omega (arith, mul-le-mul side side)
+
+variance-requires : tie.Need-variance-requires
+variance-requires c κs = (below c, square-most _ _ _ _ _ (c .before .before .before .if1 .left) (c .before .before .if2 .left) _ (c .before .before .before .before .before .pre .held) _ _ (c .before .window-sum .ensures) (c .window-sum2 .ensures))
+
+root-bits-requires : tie.Need-root-bits-requires
+root-bits-requires c κs = rw (c .variance .ensures) (omega (arith, below (c .before)))
+
+returns-3 : tie.Need-returns-3
+returns-3 c = λ pic t.
+    c .root-bits .ensures
+    ∙ ap rootBits (c .before .variance .ensures)
+    ∙ root-is _ _ _ _ _ (c .before .before .before .before .before .if1 .left) (c .before .before .before .before .if2 .left) pic t _ _ (c .before .before .before .window-sum .ensures) (c .before .before .window-sum2 .ensures)
+
+pub root-at-spec : {M : Type 1} → statement M
+root-at-spec =
+    tie.close
+    (tie.spec
+    add-side
+    rem-column
+    div-row
+    mul-if1
+    add-if1
+    returns
+    mul-if2
+    add-if2
+    returns-2
+    mul-n
+    add-n
+    window-sum-requires
+    add-window-sum
+    mul-window-sum
+    add-window-sum-2
+    window-sum-requires-2
+    mul-variance
+    variance-requires
+    root-bits-requires
+    returns-3)

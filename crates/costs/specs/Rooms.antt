@@ -1,0 +1,96 @@
+-- What the whole-number room holds while a volume is made. Definitions only.
+use Prim.Native.Nat.{ℕ, _+_, _*_, _/_, _≤_, _<_}
+use mathlib.Core.Path.{_≡_}
+use mathlib.Core.List.{List, _++_}
+use lib.IntN.{ℤ, pos, natAbs, _+ℤ_}
+use lib.ListN.{length, getD, take, drop, replicate}
+use Rattle.options.specs.declared.BlockMatchOptions.{BlockMatchOptions}
+use Rattle.options.specs.Limits.{sideMost, blockMost, countMost, firstMost}
+use Rattle.lists.specs.Rows.{levelAt}
+use Rattle.windows.specs.Table.{squareAt, crossAt, tableOf}
+use Rattle.windows.specs.Window.{Inside, cells, TableFrom}
+use Rattle.costs.specs.Roots.{rootTable, pictureTables}
+
+-- the sizes of two pictures and of a window that fits in them
+pub record Frame (w h r : ℕ) : Type 0 where
+  pub w-most : w ≤ sideMost
+  pub h-most : h ≤ sideMost
+  pub r-most : r ≤ blockMost / 2
+  pub across : 2 * r < w
+  pub down : 2 * r < h
+
+-- the bytes of a picture of w columns and h rows
+pub record Picture (w h : ℕ) (pic : List ℕ) : Type 0 where
+  pub bytes : length pic ≡ w * h
+  pub small : (i : ℕ) → getD pic i 0 ≤ 255
+
+-- the tables of a picture's levels and squares stand one after the other, the second from its cell i on
+pub record Turning (pair : List ℕ) (w h i : ℕ) (pic : List ℕ) : Type 0 where
+  pub picture : Picture w h pic
+  pub levels : TableFrom pair 0 i w h (levelAt w pic)
+  pub squares : TableFrom pair (cells w h) i w h (squareAt w pic)
+
+-- those of some picture, while roots take the place of the squares
+pub record Turned (pair : List ℕ) (w h r i : ℕ) : Type 0 where
+  pub pic : List ℕ
+  pub frame : Frame w h r
+  pub among : i < cells w h
+  pub held : Turning pair w h i pic
+
+-- the tables of two pictures one after the other, and the table of the products of a's levels by b's, s columns further right
+unfoldable pub fiveParts : ℕ → ℕ → ℕ → List ℕ → List ℕ → ℤ → List ℕ
+fiveParts w h r a b s = pictureTables w h r a ++ pictureTables w h r b ++ tableOf w h (crossAt w a b s)
+
+-- a room begins with the five parts of the pictures a and b
+pub record RoomOf (room : List ℕ) (w h r : ℕ) (s : ℤ) (a b : List ℕ) : Type 0 where
+  pub rest : List ℕ
+  pub frame : Frame w h r
+  pub first : Picture w h a
+  pub second : Picture w h b
+  pub is : room ≡ fiveParts w h r a b s ++ rest
+
+-- a room begins with the five parts of some two pictures
+pub record Ready (room : List ℕ) (w h r : ℕ) (s : ℤ) : Type 0 where
+  pub a : List ℕ
+  pub b : List ℕ
+  pub held : RoomOf room w h r s a b
+
+-- what a pair of windows is read from: a room of some two pictures, with the window at (x, y) in the one and at (x′, y) in the other
+pub record Pair (room : List ℕ) (w h r x x′ y : ℕ) : Type 0 where
+  pub s : ℤ
+  pub a : List ℕ
+  pub b : List ℕ
+  pub held : RoomOf room w h r s a b
+  pub first : Inside w h x y r
+  pub second : Inside w h x′ y r
+  pub apart : pos x +ℤ s ≡ pos x′
+
+-- the room for the two tables of a picture
+pub record PictureRoom (pair pic : List ℕ) (w h r : ℕ) : Type 0 where
+  pub frame : Frame w h r
+  pub bytes : length pic ≡ w * h
+  pub cells-of : length pair ≡ 2 * cells w h
+
+-- the sizes of a raw volume, of its pictures and of its room
+pub record Sized (outLength roomLength : ℕ) (a b : List ℕ) (w h r : ℕ) (first : ℤ) (count : ℕ) : Type 0 where
+  pub frame : Frame w h r
+  pub a-bytes : length a ≡ w * h
+  pub b-bytes : length b ≡ w * h
+  pub first-most : natAbs first ≤ firstMost
+  pub count-most : count ≤ countMost
+  pub out-cells : outLength ≡ count * (w * h)
+  pub room-cells : 5 * cells w h ≤ roomLength
+
+-- and the tables of the two pictures stand in the room
+pub record Tabled (outLength : ℕ) (room a b : List ℕ) (w h r : ℕ) (first : ℤ) (count : ℕ) : Type 0 where
+  pub sizes : Sized outLength (length room) a b w h r first count
+  pub tables : take (4 * cells w h) room ≡ pictureTables w h r a ++ pictureTables w h r b
+
+-- the sizes of a call that is not refused: both pictures have one size, and the count is no negative number
+pub record Accepted (left right : List ℕ) (w h : ℕ) (options : BlockMatchOptions) (outLength roomLength : ℕ) : Type 0 where
+  pub sizes : Sized outLength roomLength left right w h (options .«block_size» / 2) (options .«min_disparity») (natAbs (options .«num_disparities»))
+  pub whole : options .«num_disparities» ≡ pos (natAbs (options .«num_disparities»))
+
+-- the room afterwards: its first five tables' cells are zero, the rest are as they were
+abbrev pub cleared : ℕ → List ℕ → List ℕ
+cleared n room = replicate n 0 ++ drop n room

@@ -1,0 +1,61 @@
+// The tables of a picture: its levels, and one root for each of its windows.
+ghost use mathlib.Core.Path.{_≡_};
+ghost use mathlib.Core.List.{List};
+ghost use Prim.Native.Nat.{ℕ, _^_, _≤_};
+ghost use Rattle.costs.specs.Roots.{rootBits, rootCell, pictureTables};
+ghost use Rattle.costs.specs.Rooms.{Turning, Turned, PictureRoom};
+use numbers::root::root;
+use windows::fill_levels;
+use windows::fill_squares;
+use windows::variance;
+use windows::window_sum;
+
+// The bits of the root of a variance, 0 for 0.
+pub fn root_bits(variance: u64) -> u64
+    requires { ⌜ variance ≤ 2 ^ 53 ⌝ }
+    ensures { λ r. ⌜ r ≡ rootBits variance ⌝ }
+{
+    if variance == 0 {
+        0
+    } else {
+        f64::to_bits(root(variance))
+    }
+}
+
+// The bits of the root of the variance of the window whose top left corner is cell i, 0 where none fits.
+pub fn root_at(pair: &[u64], w: usize, h: usize, r: usize, i: usize) -> u64
+    requires { ⌜ Turned (now pair) w h r i ⌝ }
+    ensures { λ v. ⌜ ((pic : List ℕ) → Turning (now (pair .entry)) w h i pic → v ≡ rootCell w h r pic i) ⌝ }
+{
+    let side = w + 1;
+    let column = i % side;
+    let row = i / side;
+    if w <= column + 2 * r {
+        return 0;
+    }
+    if h <= row + 2 * r {
+        return 0;
+    }
+    let n = 2 * r + 1;
+    let sum = window_sum(pair, side, i, n);
+    let squares = window_sum(pair, side, side * (h + 1) + i, n);
+    root_bits(variance((n * n) as u64, sum, squares))
+}
+
+// The two tables of a picture: levels, and the roots, which take the place of the squares cell by cell.
+// No later window reads the cell that is written: it is the top left corner, the first of the four.
+pub fn fill_picture(pair: &mut [u64], pic: &[u8], w: usize, h: usize, r: usize)
+    requires { ⌜ PictureRoom (now pair) (now pic) w h r ⌝ }
+    ensures { λ _. ⌜ now (pair .exit) ≡ pictureTables w h r (now (pic .entry)) ⌝ }
+{
+    let cells = (w + 1) * (h + 1);
+    let end = 2 * cells;
+    fill_levels(&mut pair[0..cells], pic, w, h);
+    fill_squares(&mut pair[cells..end], pic, w, h);
+    let mut i = 0;
+    while i < cells {
+        let bits = root_at(pair, w, h, r, i);
+        pair[cells + i] = bits;
+        i += 1;
+    }
+}

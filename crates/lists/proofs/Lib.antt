@@ -1,0 +1,6 @@
+-- The laws of the words of specs/.
+pub mod Lists
+pub mod Tests
+pub mod Walks
+pub mod Clearing
+pub mod Rows

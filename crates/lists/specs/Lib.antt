@@ -1,0 +1,3 @@
+-- The words that several crates use of lists.
+pub mod Lists
+pub mod Rows

@@ -1,0 +1,19 @@
+-- Lists that are made from a rule, a test of every number below n, and a walk along a list. Definitions only.
+use Prim.Native.Nat.{ℕ, zero, suc}
+use mathlib.Core.Bool.{Bool, true, _&&_}
+use mathlib.Core.List.{List, [], _∷_}
+
+-- f 0, f 1, .., f (n - 1)
+unfoldable pub listOf : {A : Type 0} → ℕ → (ℕ → A) → List A
+listOf zero f = []
+listOf (suc n) f = f 0 ∷ listOf n (λ k. f (suc k))
+
+-- p holds of 0, 1, .., n - 1
+unfoldable pub allBelow : ℕ → (ℕ → Bool) → Bool
+allBelow zero p = true
+allBelow (suc n) p = allBelow n p && p n
+
+-- from the state s, take each element in turn with its index, the first of which is k
+unfoldable pub walk : {S A : Type 0} → (S → ℕ → A → S) → ℕ → S → List A → S
+walk f k s [] = s
+walk f k s (x ∷ xs) = walk f (suc k) (f s k x) xs

@@ -1,0 +1,24 @@
+// What several crates need of lists: specs/ has the words, proofs/ the laws. Here is what they share of code.
+ghost use mathlib.Core.Path.{_≡_};
+ghost use mathlib.Core.Bool.{false};
+ghost use lib.IntN.{pos};
+ghost use lib.Ieee.{fin};
+ghost use lib.ListN.{length, replicate};
+
+// Sets every cell to zero.
+pub fn clear_u64(cells: &mut [u64])
+    ensures { λ _. ⌜ now (cells .exit) ≡ replicate (length (now (cells .entry))) 0 ⌝ }
+{
+    for i in 0..cells.len() {
+        cells[i] = 0;
+    }
+}
+
+// Sets every cell to zero.
+pub fn clear_f32(cells: &mut [f32])
+    ensures { λ _. ⌜ now (cells .exit) ≡ replicate (length (now (cells .entry))) (fin false 0 (pos 0)) ⌝ }
+{
+    for i in 0..cells.len() {
+        cells[i] = 0.0;
+    }
+}

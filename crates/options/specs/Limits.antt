@@ -1,0 +1,33 @@
+-- The sizes allowed: document 01, "Sizes and rooms". Definitions only.
+use Prim.Native.Nat.{ℕ, _+_}
+use mathlib.Core.Bool.{Bool, false, _&&_}
+use lib.IntN.{pos}
+use lib.Ieee.{Float, fin, le}
+
+-- width and height
+abbrev pub sideMost : ℕ
+sideMost = 2048
+
+-- the block's side
+abbrev pub blockMost : ℕ
+blockMost = 31
+
+-- disparities searched
+abbrev pub countMost : ℕ
+countMost = 256
+
+-- the first disparity, either sign
+abbrev pub firstMost : ℕ
+firstMost = 4096
+
+-- a penalty: 1,024 as an f32
+abbrev pub penaltyMost : Float
+penaltyMost = fin false 1 (pos 10)
+
+-- a penalty is a number from 0 to that; minus zero is one
+abbrev pub isPenalty : Float → Bool
+isPenalty p = le (fin false 0 (pos 0)) p && le p penaltyMost
+
+-- how far a target column can lie from the reference, either way: first + count
+abbrev pub shiftMost : ℕ
+shiftMost = firstMost + countMost

@@ -1,0 +1,94 @@
+-- The numbers given back: document 01's table, tested in its order. Definitions only.
+use Prim.Native.Nat.{ℕ, _+_, _*_, _%_}
+use mathlib.Core.Bool.{Bool, false, cond, not, _&&_, _||_}
+use mathlib.Core.List.{List, [], _∷_, _++_}
+use lib.Dec.{leb, ltb, eqb}
+use lib.IntN.{ℤ, pos, negℤ, natAbs}
+use lib.Signed.{ltZ}
+use Rattle.options.specs.Limits.{sideMost, blockMost, countMost, firstMost, isPenalty}
+use Rattle.refusals.specs.declared.Call.{Call}
+use Rattle.refusals.specs.declared.Output.{Output}
+use Rattle.refusals.specs.declared.Output.the-variants.{Volume, Map}
+
+-- a row of the table: its number, and whether its reason applies
+pub record Row : Type 0 where
+  pub number : ℕ
+  pub applies : Bool
+
+abbrev pub row : ℕ → Bool → Row
+row n reason = record { number = n; applies = reason }
+
+-- the number of the first row that applies, 0 where none does
+unfoldable pub firstOf : List Row → ℕ
+firstOf [] = 0
+firstOf (r ∷ rows) = cond (r .applies) (r .number) (firstOf rows)
+
+-- width and height 1 to 2,048
+abbrev pub inRange : ℕ → ℕ → Bool
+inRange w h = (leb 1 w && leb w sideMost) && (leb 1 h && leb h sideMost)
+
+-- 1 a width or height outside its range, either picture; 2 a picture's byte count is not w·h; 3 the two sizes differ
+unfoldable pub pictureRows : Call → List Row
+pictureRows q =
+    row 1 (not (inRange (q .«left_w») (q .«left_h») && inRange (q .«right_w») (q .«right_h»)))
+    ∷ row 2 (not (eqb (q .«left_bytes») (q .«left_w» * q .«left_h») && eqb (q .«right_bytes») (q .«right_w» * q .«right_h»)))
+    ∷ row 3 (not (eqb (q .«left_w») (q .«right_w») && eqb (q .«left_h») (q .«right_h»)))
+    ∷ []
+
+-- 4 block side zero or even; 5 odd block side over 31; 6 count zero or negative; 7 count over 256;
+-- 8 picture narrower or lower than the block; 9 first disparity outside its range
+unfoldable pub searchRows : Call → List Row
+searchRows q =
+    row 4 (eqb (q .block % 2) 0)
+    ∷ row 5 (ltb blockMost (q .block))
+    ∷ row 6 (ltZ (q .count) (pos 1))
+    ∷ row 7 (ltZ (pos countMost) (q .count))
+    ∷ row 8 (ltb (q .«left_w») (q .block) || ltb (q .«left_h») (q .block))
+    ∷ row 9 (ltZ (q .first) (negℤ (pos firstMost)) || ltZ (pos firstMost) (q .first))
+    ∷ []
+
+-- whether the call makes a semi-global map
+abbrev pub semiGlobal : Output → Bool → Bool
+semiGlobal Volume mode = false
+semiGlobal Map mode = mode
+
+-- 10 semi-global, and a penalty is not finite or outside its range
+unfoldable pub penaltyRows : Call → List Row
+penaltyRows q = row 10 (semiGlobal (q .output) (q .«semi_global») && not (isPenalty (q .p1) && isPenalty (q .p2))) ∷ []
+
+-- w·h
+abbrev pub area : Call → ℕ
+area q = q .«left_w» * q .«left_h»
+
+-- V = count·w·h
+abbrev pub volume : Call → ℕ
+volume q = natAbs (q .count) * area q
+
+-- the cells of the output: V for the raw volume, w·h for a map
+abbrev pub outCells : Call → Output → ℕ
+outCells q Volume = volume q
+outCells q Map = area q
+
+-- the cells of the whole-number room: 5(w+1)(h+1)
+abbrev pub wholeCells : Call → ℕ
+wholeCells q = 5 * ((q .«left_w» + 1) * (q .«left_h» + 1))
+
+-- the cells of the float room: none for the raw volume, V + w·h for a block map, 3V + w·h for a semi-global one
+abbrev pub floatCells : Call → Output → ℕ
+floatCells q Volume = 0
+floatCells q Map = cond (q .«semi_global») (3 * volume q + area q) (volume q + area q)
+
+-- 11 output length is not w·h (raw volume: not V); 12 a room is too short
+unfoldable pub lentRows : Call → List Row
+lentRows q =
+    row 11 (not (eqb (q .«out_len») (outCells q (q .output))))
+    ∷ row 12 (ltb (q .«whole_len») (wholeCells q) || ltb (q .«float_len») (floatCells q (q .output)))
+    ∷ []
+
+-- THE TABLE, in document 01's order
+unfoldable pub table : Call → List Row
+table q = pictureRows q ++ searchRows q ++ penaltyRows q ++ lentRows q
+
+-- THE REFUSAL of a call: the number of the first row that applies, 0 for none
+unfoldable pub refusal : Call → ℕ
+refusal q = firstOf (table q)

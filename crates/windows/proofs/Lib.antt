@@ -1,0 +1,11 @@
+-- Lemmas that belong to no one function.
+pub mod Sums
+pub mod Rows
+pub mod Tables
+pub mod Windows
+pub mod Corners
+pub mod Shifts
+pub mod Laws
+pub mod Cauchy
+pub mod Bounds
+pub mod Flat

@@ -1,0 +1,160 @@
+// Summed-area tables of a picture, the sum over a window from a table's four corners, and the variance and covariance of
+// windows, all as whole numbers (document 01, "Window sums").
+ghost use mathlib.Core.Path.{_≡_};
+ghost use Prim.Native.Nat.{ℕ, _+_, _*_, _^_, _≤_, _<_};
+ghost use lib.IntN.{pos, natAbs, _+ℤ_};
+ghost use lib.ListN.{length, getD, set};
+ghost use Rattle.options.specs.Limits.{sideMost, shiftMost};
+ghost use Rattle.lists.specs.Rows.{levelAt};
+ghost use Rattle.windows.specs.Table.{Sizes, RowReady, nextRow, tableOf, levelIn, squareAt, columnAt, crossIn, crossAt};
+ghost use Rattle.windows.specs.Window.{cornerSum, Corners};
+ghost use Rattle.windows.specs.Moments.{varianceOf, covarianceOf};
+use lists::clear_u64;
+
+fn wide(level: u8) -> u64
+    ensures { λ r. ⌜ r ≡ level ⌝ }
+{
+    level as u64
+}
+
+// One cell of the second of two rows: the cell above it plus the row's sum so far.
+fn put_below(part: &mut [u64], side: usize, x: usize, run: u64)
+    requires { ⌜ (x < length (now part)) × (side + x < length (now part)) × (getD (now part) x 0 + run < 2 ^ 64) ⌝ }
+    ensures { λ _. ⌜ now (part .exit) ≡ set (now (part .entry)) (side + x) (getD (now (part .entry)) x 0 + run) ⌝ }
+{
+    part[side + x] = part[x] + run;
+}
+
+// Fills the second of two rows of a table from the first and the levels of the picture's row.
+fn add_levels(part: &mut [u64], levels: &[u8])
+    requires { ⌜ RowReady (length (now levels)) (now part) ⌝ }
+    ensures { λ _. ⌜ now (part .exit) ≡ nextRow (length (now (levels .entry))) (levelIn (now (levels .entry))) (now (part .entry)) ⌝ }
+{
+    let side = levels.len() + 1;
+    let mut run: u64 = 0;
+    let mut x = 0;
+    while x < levels.len() {
+        put_below(part, side, x, run);
+        run += wide(levels[x]);
+        x += 1;
+    }
+    put_below(part, side, x, run);
+}
+
+// The table of the picture's levels.
+pub fn fill_levels(table: &mut [u64], pic: &[u8], w: usize, h: usize)
+    requires { ⌜ Sizes w h (now table) (now pic) ⌝ }
+    ensures { λ _. ⌜ now (table .exit) ≡ tableOf w h (levelAt w (now (pic .entry))) ⌝ }
+{
+    let side = w + 1;
+    clear_u64(&mut table[..side]);
+    let mut y = 0;
+    while y < h {
+        let top = y * side;
+        let end = top + 2 * side;
+        let first = y * w;
+        let last = first + w;
+        add_levels(&mut table[top..end], &pic[first..last]);
+        y += 1;
+    }
+}
+
+fn product(a: u8, b: u8) -> u64
+    ensures { λ r. ⌜ r ≡ a * b ⌝ }
+{
+    wide(a) * wide(b)
+}
+
+// The level at a column that may lie outside the row, where it is 0.
+fn shifted(levels: &[u8], x: usize, shift: i64) -> u8
+    requires { ⌜ (x ≤ sideMost) × (natAbs shift ≤ shiftMost) ⌝ }
+    ensures { λ r. ⌜ r ≡ columnAt (now (levels .entry)) (pos x +ℤ shift) ⌝ }
+{
+    let at = x as i64 + shift;
+    if at < 0 {
+        return 0;
+    }
+    let column = at as usize;
+    if column < levels.len() {
+        levels[column]
+    } else {
+        0
+    }
+}
+
+// Fills the second of two rows of a table from the first and the products of a's levels by b's shifted ones.
+fn add_cross(part: &mut [u64], a: &[u8], b: &[u8], shift: i64)
+    requires { ⌜ RowReady (length (now a)) (now part) × (natAbs shift ≤ shiftMost) ⌝ }
+    ensures { λ _. ⌜ now (part .exit) ≡ nextRow (length (now (a .entry))) (crossIn (now (a .entry)) (now (b .entry)) shift) (now (part .entry)) ⌝ }
+{
+    let side = a.len() + 1;
+    let mut run: u64 = 0;
+    let mut x = 0;
+    while x < a.len() {
+        put_below(part, side, x, run);
+        let other = shifted(b, x, shift);
+        run += product(a[x], other);
+        x += 1;
+    }
+    put_below(part, side, x, run);
+}
+
+// The table of the products of a's levels by b's, taken `shift` columns further right.
+pub fn fill_cross(table: &mut [u64], a: &[u8], b: &[u8], w: usize, h: usize, shift: i64)
+    requires { ⌜ Sizes w h (now table) (now a) × (length (now b) ≡ w * h) × (natAbs shift ≤ shiftMost) ⌝ }
+    ensures { λ _. ⌜ now (table .exit) ≡ tableOf w h (crossAt w (now (a .entry)) (now (b .entry)) shift) ⌝ }
+{
+    let side = w + 1;
+    clear_u64(&mut table[..side]);
+    let mut y = 0;
+    while y < h {
+        let top = y * side;
+        let end = top + 2 * side;
+        let first = y * w;
+        let last = first + w;
+        add_cross(
+            &mut table[top..end],
+            &a[first..last],
+            &b[first..last],
+            shift,
+        );
+        y += 1;
+    }
+}
+
+// The table of the squares of the picture's levels: its products with itself, unshifted.
+pub fn fill_squares(table: &mut [u64], pic: &[u8], w: usize, h: usize)
+    requires { ⌜ Sizes w h (now table) (now pic) ⌝ }
+    ensures { λ _. ⌜ now (table .exit) ≡ tableOf w h (squareAt w (now (pic .entry))) ⌝ }
+{
+    fill_cross(table, pic, pic, w, h, 0);
+}
+
+// The sum over a window of n · n pixels, from the four corners of a table in rows of `side` cells; `at` is the first of them.
+pub fn window_sum(table: &[u64], side: usize, at: usize, n: usize) -> u64
+    requires { ⌜ Corners (now table) side at n ⌝ }
+    ensures { λ r. ⌜ r ≡ cornerSum (now (table .entry)) side at n ⌝ }
+{
+    let below = at + n * side;
+    let right = table[below + n] - table[at + n];
+    let left = table[below] - table[at];
+    right - left
+}
+
+// n·Saa - Sa², of the sum and the sum of squares of a window's n levels.
+pub fn variance(n: u64, sum: u64, squares: u64) -> u64
+    requires { ⌜ (n * squares < 2 ^ 53) × (sum * sum ≤ n * squares) ⌝ }
+    ensures { λ r. ⌜ r ≡ varianceOf n sum squares ⌝ }
+{
+    n * squares - sum * sum
+}
+
+// n·Sab - Sa·Sb, of the sums and the sum of products of two windows of n levels.
+pub fn covariance(n: u64, sum_a: u64, sum_b: u64, products: u64) -> i64
+    requires { ⌜ (n * products < 2 ^ 53) × («sum_a» * «sum_b» < 2 ^ 53) ⌝ }
+    ensures { λ r. ⌜ r ≡ covarianceOf n «sum_a» «sum_b» products ⌝ }
+{
+    let all = (n * products) as i64;
+    let mean = (sum_a * sum_b) as i64;
+    all - mean
+}
