@@ -3,4 +3,5 @@ pub mod Lists
 pub mod Tests
 pub mod Walks
 pub mod Clearing
+pub mod Copying
 pub mod Rows

@@ -22,3 +22,13 @@ pub fn clear_f32(cells: &mut [f32])
         cells[i] = 0.0;
     }
 }
+
+// Copies every cell.
+pub fn copy_f32(to: &mut [f32], from: &[f32])
+    requires { ⌜ length (now to) ≡ length (now from) ⌝ }
+    ensures { λ _. ⌜ now (to .exit) ≡ now (from .entry) ⌝ }
+{
+    for i in 0..from.len() {
+        to[i] = from[i];
+    }
+}
