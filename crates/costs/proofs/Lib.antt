@@ -11,3 +11,4 @@ pub mod Signed
 pub mod Volumes
 pub mod Outcomes
 pub mod Laws
+pub mod Scaling

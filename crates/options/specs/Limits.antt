@@ -1,12 +1,17 @@
 -- The sizes allowed: document 01, "Sizes and rooms". Definitions only.
 use Prim.Native.Nat.{ℕ, _+_}
 use mathlib.Core.Bool.{Bool, false, _&&_}
+use lib.Dec.{leb}
 use lib.IntN.{pos}
 use lib.Ieee.{Float, fin, le}
 
 -- width and height
 abbrev pub sideMost : ℕ
 sideMost = 2048
+
+-- a width or a height from 1 to that
+abbrev pub isSide : ℕ → Bool
+isSide n = leb 1 n && leb n sideMost
 
 -- the block's side
 abbrev pub blockMost : ℕ

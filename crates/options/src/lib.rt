@@ -1,5 +1,6 @@
 // What a match is asked for: the options, the raw cost as a type, and the sizes allowed.
 ghost use mathlib.Core.Path.{_≡_};
+ghost use Rattle.options.specs.Limits.{isSide};
 ghost use Rattle.options.specs.Options.{defaultOptions};
 ghost use Rattle.options.specs.Costs.{stored, rawOf};
 
@@ -14,6 +15,16 @@ pub const COUNT_MOST: i32 = 256;
 pub const FIRST_MOST: i32 = 4096;
 
 pub const PENALTY_MOST: f32 = 1024.0;
+
+// A width or a height in its range.
+pub fn is_side(n: usize) -> bool
+    ensures { λ t. ⌜ t ≡ isSide n ⌝ }
+{
+    if n < 1 {
+        return false;
+    }
+    n <= SIDE_MOST
+}
 
 // A raw cost: blank, or a correlation.
 pub enum RawCost {

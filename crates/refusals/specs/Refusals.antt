@@ -2,10 +2,10 @@
 use Prim.Native.Nat.{ℕ, _+_, _*_, _%_}
 use mathlib.Core.Bool.{Bool, false, cond, not, _&&_, _||_}
 use mathlib.Core.List.{List, [], _∷_, _++_}
-use lib.Dec.{leb, ltb, eqb}
+use lib.Dec.{ltb, eqb}
 use lib.IntN.{ℤ, pos, negℤ, natAbs}
 use lib.Signed.{ltZ}
-use Rattle.options.specs.Limits.{sideMost, blockMost, countMost, firstMost, isPenalty}
+use Rattle.options.specs.Limits.{isSide, blockMost, countMost, firstMost, isPenalty}
 use Rattle.refusals.specs.declared.Call.{Call}
 use Rattle.refusals.specs.declared.Output.{Output}
 use Rattle.refusals.specs.declared.Output.the-variants.{Volume, Map}
@@ -25,7 +25,7 @@ firstOf (r ∷ rows) = cond (r .applies) (r .number) (firstOf rows)
 
 -- width and height 1 to 2,048
 abbrev pub inRange : ℕ → ℕ → Bool
-inRange w h = (leb 1 w && leb w sideMost) && (leb 1 h && leb h sideMost)
+inRange w h = isSide w && isSide h
 
 -- 1 a width or height outside its range, either picture; 2 a picture's byte count is not w·h; 3 the two sizes differ
 unfoldable pub pictureRows : Call → List Row

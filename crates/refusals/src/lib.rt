@@ -7,7 +7,7 @@ use options::BLOCK_MOST;
 use options::COUNT_MOST;
 use options::FIRST_MOST;
 use options::PENALTY_MOST;
-use options::SIDE_MOST;
+use options::is_side;
 
 // What a call's output is to hold: the raw volume, or a map.
 pub enum Output {
@@ -43,16 +43,7 @@ pub struct Call {
 pub fn in_range(w: usize, h: usize) -> bool
     ensures { λ t. ⌜ t ≡ inRange w h ⌝ }
 {
-    if w < 1 {
-        return false;
-    }
-    if SIDE_MOST < w {
-        return false;
-    }
-    if h < 1 {
-        return false;
-    }
-    h <= SIDE_MOST
+    if is_side(w) { is_side(h) } else { false }
 }
 
 // Rows 1 to 3: width, height and byte count of each picture.

@@ -9,3 +9,4 @@ pub mod Laws
 pub mod Cauchy
 pub mod Bounds
 pub mod Flat
+pub mod Affine

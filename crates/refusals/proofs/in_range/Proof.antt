@@ -1,19 +1,20 @@
 -- `refusals::in_range` meets its contract. Assumes nothing.
-use borrow.Author.Tests.{le-leb, lt-leb}
+use mathlib.Core.Path.{_≡_, sym, _∙_}
+use borrow.Author.Needs.{needs}
 use Rattle.refusals.proofs.in_range.Statement.{statement}
 use Rattle.refusals.proofs.in_range.Tie as tie
 
+is-side-requires : tie.Need-is-side-requires
+is-side-requires c κs = search needs
+
+is-side-requires-2 : tie.Need-is-side-requires-2
+is-side-requires-2 c κs = search needs
+
 returns : tie.Need-returns
-returns c = rw (lt-leb 1 (c .before .args .w) (c .if1 .taken))
+returns c = c .is-side2 .ensures ∙ rw (sym (c .before .before .is-side .ensures) ∙ c .before .if1 .taken)
 
 returns-2 : tie.Need-returns-2
-returns-2 c = let z = c .before .before in rw (le-leb 1 (z .args .w) (c .before .if1 .left), lt-leb (z .args .w) 2048 (c .if2 .taken))
-
-returns-3 : tie.Need-returns-3
-returns-3 c = let z = c .before .before .before in rw (le-leb 1 (z .args .w) (c .before .before .if1 .left), le-leb (z .args .w) 2048 (c .before .if2 .left), lt-leb 1 (z .args .h) (c .if3 .taken))
-
-returns-4 : tie.Need-returns-4
-returns-4 c = let z = c .before .before .before in rw (le-leb 1 (z .args .w) (c .before .before .if1 .left), le-leb (z .args .w) 2048 (c .before .if2 .left), le-leb 1 (z .args .h) (c .if3 .left))
+returns-2 c = rw (sym (c .before .is-side .ensures) ∙ c .if1 .left)
 
 pub in-range-spec : {M : Type 1} → statement M
-in-range-spec = tie.close (tie.spec returns returns-2 returns-3 returns-4)
+in-range-spec = tie.close (tie.spec is-side-requires is-side-requires-2 returns returns-2)

@@ -1,0 +1,220 @@
+//! One call: two pictures, options, and what is lent.
+use crate::rng::Rng;
+use plombrisa::{Options, float_cells, whole_cells};
+
+#[derive(Debug, Clone)]
+pub struct Case {
+    pub left: Vec<u8>,
+    pub left_size: (usize, usize),
+    pub right: Vec<u8>,
+    pub right_size: (usize, usize),
+    pub options: Options,
+    /// How many cells more or fewer than needed are lent: output, whole-number room, float room.
+    pub spare: (isize, isize, isize),
+}
+
+impl Case {
+    /// A case of two pictures of one size, with what is needed lent and a few cells of each room beyond.
+    pub fn of(width: usize, height: usize, left: Vec<u8>, right: Vec<u8>, options: Options) -> Self {
+        let size = (width, height);
+        Self { left, left_size: size, right, right_size: size, options, spare: (0, 3, 5) }
+    }
+
+    pub fn area(&self) -> usize {
+        self.left_size.0 * self.left_size.1
+    }
+
+    fn count(&self) -> usize {
+        self.options.num_disparities.clamp(0, 256) as usize
+    }
+
+    fn lent(needed: usize, spare: isize) -> usize {
+        needed.saturating_add_signed(spare)
+    }
+
+    pub fn out_len(&self, volume: bool) -> usize {
+        let needed = if volume { self.count() * self.area() } else { self.area() };
+        Self::lent(needed, self.spare.0)
+    }
+
+    pub fn whole_needed(&self) -> usize {
+        whole_cells(self.left_size.0, self.left_size.1)
+    }
+
+    pub fn float_needed(&self) -> usize {
+        float_cells(self.left_size.0, self.left_size.1, self.count(), self.options.semi_global)
+    }
+
+    pub fn whole_len(&self) -> usize {
+        Self::lent(self.whole_needed(), self.spare.1)
+    }
+
+    pub fn float_len(&self) -> usize {
+        Self::lent(self.float_needed(), self.spare.2)
+    }
+
+    /// The number of document 01's table for this case, 0 for none, worked out from its words. `volume` says that the raw
+    /// volume is asked for, which skips 10 and needs no float room.
+    pub fn refusal(&self, volume: bool) -> u32 {
+        let o = &self.options;
+        let ((w, h), (rw, rh)) = (self.left_size, self.right_size);
+        let side = |n: usize| (1..=2048).contains(&n);
+        if !(side(w) && side(h) && side(rw) && side(rh)) {
+            return 1;
+        }
+        if self.left.len() != w * h || self.right.len() != rw * rh {
+            return 2;
+        }
+        if w != rw || h != rh {
+            return 3;
+        }
+        if o.block_size.is_multiple_of(2) {
+            return 4;
+        }
+        if o.block_size > 31 {
+            return 5;
+        }
+        if o.num_disparities <= 0 {
+            return 6;
+        }
+        if o.num_disparities > 256 {
+            return 7;
+        }
+        if w < o.block_size || h < o.block_size {
+            return 8;
+        }
+        if !(-4096..=4096).contains(&o.min_disparity) {
+            return 9;
+        }
+        let fit = |p: f32| p.is_finite() && (0.0..=1024.0).contains(&p);
+        if !volume && o.semi_global && !(fit(o.sgm_p1) && fit(o.sgm_p2)) {
+            return 10;
+        }
+        let needed = if volume { self.count() * w * h } else { w * h };
+        if self.out_len(volume) != needed {
+            return 11;
+        }
+        if self.whole_len() < self.whole_needed() || (!volume && self.float_len() < self.float_needed()) {
+            return 12;
+        }
+        0
+    }
+}
+
+/// A picture by one of several recipes.
+fn picture(rng: &mut Rng, w: usize, h: usize) -> Vec<u8> {
+    let levels = rng.pick(&[1, 2, 3, 16, 256]);
+    let base = rng.below(257 - levels);
+    let mut bytes: Vec<u8> = (0..w * h).map(|_| (base + rng.below(levels)) as u8).collect();
+    if rng.one_in(3) {
+        // a band of one level
+        let (top, level) = (rng.below(h), rng.below(256) as u8);
+        let rows = rng.below(h - top) + 1;
+        bytes[top * w..(top + rows) * w].fill(level);
+    }
+    bytes
+}
+
+/// The right picture: the left one moved by a few columns, with some pixels changed, or one of its own.
+fn other_picture(rng: &mut Rng, left: &[u8], w: usize, h: usize) -> Vec<u8> {
+    if rng.one_in(3) {
+        return picture(rng, w, h);
+    }
+    let shift = rng.within(-4, 6);
+    let noise = rng.pick(&[0, 0, 8, 3]);
+    (0..w * h)
+        .map(|i| {
+            let x = ((i % w) as i64 + shift).rem_euclid(w as i64) as usize;
+            if noise != 0 && rng.one_in(noise) { rng.below(256) as u8 } else { left[i / w * w + x] }
+        })
+        .collect()
+}
+
+fn gate(rng: &mut Rng) -> f32 {
+    let usual = rng.below(2001) as f32 / 1000.0 - 1.0;
+    rng.pick(&[usual, usual, 0.5, 0.03, 0.0, -0.0, 1.0, -1.0, 2.0, f32::NAN, f32::INFINITY, f32::NEG_INFINITY, 1e-45])
+}
+
+fn penalty(rng: &mut Rng) -> f32 {
+    let usual = rng.below(3000) as f32 / 1000.0;
+    rng.pick(&[usual, usual, 0.1, 1.5, 0.0, -0.0, 1024.0, 1e-45, 700.5])
+}
+
+pub fn options(rng: &mut Rng, blocks: &[usize], count_most: i64) -> Options {
+    let count = if rng.one_in(6) { 1 } else { rng.within(1, count_most) };
+    let near = rng.within(-6, 4);
+    Options {
+        min_disparity: rng.pick(&[0, 0, near, near, -4096, 4096, -30]) as i32,
+        num_disparities: count as i32,
+        block_size: rng.pick(blocks),
+        min_correlation: gate(rng),
+        uniqueness_ratio: gate(rng),
+        lr_consistency: rng.one_in(2),
+        lr_max_diff: gate(rng),
+        subpixel: rng.one_in(2),
+        semi_global: rng.one_in(2),
+        sgm_p1: penalty(rng),
+        sgm_p2: penalty(rng),
+    }
+}
+
+/// A small pair at some boundary.
+pub fn small(rng: &mut Rng) -> Case {
+    let block = rng.pick(&[1, 3, 3, 3, 5, 7]);
+    let w = block + rng.below(12);
+    let h = block + rng.below(6);
+    let left = picture(rng, w, h);
+    let right = other_picture(rng, &left, w, h);
+    let options = options(rng, &[block], 12);
+    Case::of(w, h, left, right, options)
+}
+
+/// A textured pair of a given size, mostly like what a site would send.
+pub fn textured(rng: &mut Rng, w: usize, h: usize) -> Case {
+    let coarse: Vec<u8> = (0..(w / 3 + 2) * (h / 3 + 2)).map(|_| rng.below(256) as u8).collect();
+    let at = |x: usize, y: usize, fine: u8| (coarse[y / 3 * (w / 3 + 2) + x / 3] / 2).saturating_add(fine % 64);
+    let left: Vec<u8> = (0..w * h).map(|i| at(i % w, i / w, rng.next() as u8)).collect();
+    let right: Vec<u8> = (0..w * h)
+        .map(|i| {
+            let (x, y) = (i % w, i / w);
+            left[y * w + (x + 3 + y * 9 / h).min(w - 1)].saturating_add((rng.below(4)) as u8)
+        })
+        .collect();
+    let mut options = options(rng, &[3, 5, 7, 9], 32);
+    options.min_disparity = rng.within(-2, 3) as i32;
+    Case::of(w, h, left, right, options)
+}
+
+/// A small case with one or two things wrong with it.
+pub fn unfit(rng: &mut Rng) -> Case {
+    let mut case = small(rng);
+    for _ in 0..1 + rng.below(2) {
+        match rng.below(14) {
+            0 => case.left_size.0 = rng.pick(&[0, 2049, usize::MAX, case.left_size.0 + 1]),
+            1 => case.right_size.1 = rng.pick(&[0, 2049, usize::MAX / 2, case.right_size.1 + 1]),
+            2 => case.left.push(0),
+            3 => drop(case.right.pop()),
+            4 => case.options.block_size = rng.pick(&[0, 2, 32, 64, usize::MAX - 1]),
+            5 => case.options.block_size = rng.pick(&[33, 65, usize::MAX]),
+            6 => case.options.num_disparities = rng.pick(&[0, -1, i32::MIN]),
+            7 => case.options.num_disparities = rng.pick(&[257, 1000, i32::MAX]),
+            8 => case.options.block_size = 31,
+            9 => case.options.min_disparity = rng.pick(&[-4097, 4097, i32::MIN, i32::MAX]),
+            10 => case.options.sgm_p1 = rng.pick(&[-1e-45, 1024.0001, f32::NAN, f32::INFINITY, -1.0]),
+            11 => case.options.sgm_p2 = rng.pick(&[-0.5, 2000.0, f32::NAN, f32::NEG_INFINITY]),
+            12 => case.spare.0 = rng.pick(&[-1, 1, 7]),
+            _ => {
+                if rng.one_in(2) {
+                    case.spare.1 = -1
+                } else {
+                    case.spare.2 = -1
+                }
+            }
+        }
+    }
+    // lengths are worked out from the sizes: keep them small enough to be lent
+    if case.left_size.0 > 4000 || case.left_size.1 > 4000 {
+        case.left_size = (2049, 1);
+    }
+    case
+}

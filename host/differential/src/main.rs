@@ -1,0 +1,105 @@
+//! Holds the proved library to the Rust: the same inputs on both sides, every cell bit for bit, every refusal, both rooms.
+//!
+//! `differential [SEED] [SECONDS]`; the seed is printed, and the same seed gives the same cases in the same order.
+mod case;
+mod compare;
+mod rng;
+mod shrink;
+
+use case::Case;
+use plombrisa::Options;
+use rng::Rng;
+use std::process::exit;
+use std::time::{Duration, Instant};
+
+struct Run {
+    seed: u64,
+    tallies: Vec<(&'static str, usize)>,
+    refusals: [usize; 13],
+}
+
+impl Run {
+    /// One case on both sides; a difference ends the run.
+    fn try_case(&mut self, kind: &'static str, case: &Case) {
+        if let Err(why) = compare::check(case) {
+            let small = shrink::shrink(case);
+            println!("seed {}: {kind}: {why}", self.seed);
+            println!("smaller: {}\n{small:?}", compare::check(&small).unwrap_err());
+            exit(1);
+        }
+        self.refusals[case.refusal(false) as usize] += 1;
+        match self.tallies.iter_mut().find(|(name, _)| *name == kind) {
+            Some((_, n)) => *n += 1,
+            None => self.tallies.push((kind, 1)),
+        }
+    }
+
+    fn report(&self) {
+        for (kind, n) in &self.tallies {
+            println!("{n:>9} {kind}");
+        }
+        let given: Vec<String> = (1..13).map(|n| format!("{n}: {}", self.refusals[n])).collect();
+        println!("{:>9} accepted; refusals {}", self.refusals[0], given.join(", "));
+    }
+}
+
+/// Every pair of two-level pictures of up to four pixels, and of three by three, each with options taken in turn.
+fn exhaustive(run: &mut Run, rng: &mut Rng, until: Instant) {
+    for (w, h) in [(1, 1), (2, 1), (1, 2), (3, 1), (1, 3), (2, 2), (4, 1), (3, 2), (3, 3)] {
+        let pixels = w * h;
+        let step = if pixels > 6 { 7 } else { 1 };
+        for pattern in (0..1u32 << (2 * pixels)).step_by(step) {
+            if Instant::now() > until {
+                return;
+            }
+            let bytes = |from: usize| (0..pixels).map(|i| (pattern >> (from + i) & 1) as u8 * 200).collect::<Vec<_>>();
+            let block = if w >= 3 && h >= 3 { 3 } else { 1 };
+            let options = case::options(rng, &[block], 4);
+            run.try_case("exhaustive two-level pairs of up to nine pixels", &Case::of(w, h, bytes(0), bytes(pixels), options));
+        }
+    }
+}
+
+/// The examples that document 01 names and does not mark to be proved.
+fn named(run: &mut Run) {
+    let flat = vec![7u8; 40 * 40];
+    for semi_global in [false, true] {
+        for lr_consistency in [false, true] {
+            for block_size in [1, 31, 32, 33] {
+                let options = Options { block_size, num_disparities: 8, semi_global, lr_consistency, ..Options::default() };
+                run.try_case("document 01's examples", &Case::of(40, 40, flat.clone(), flat.clone(), options));
+            }
+            for num_disparities in [256, 257] {
+                let options = Options { num_disparities, block_size: 3, semi_global, lr_consistency, ..Options::default() };
+                run.try_case("document 01's examples", &Case::of(40, 40, flat.clone(), flat.clone(), options));
+            }
+        }
+    }
+}
+
+fn main() {
+    let words: Vec<u64> = std::env::args().skip(1).map(|w| w.parse().expect("SEED and SECONDS are whole numbers")).collect();
+    let seed = words.first().copied().unwrap_or(1);
+    let seconds = words.get(1).copied().unwrap_or(30);
+    println!("seed {seed}, {seconds} seconds");
+    let start = Instant::now();
+    let share = |part: u64| start + Duration::from_millis(seconds * 10 * part);
+    let mut rng = Rng::new(seed);
+    let mut run = Run { seed, tallies: Vec::new(), refusals: [0; 13] };
+
+    named(&mut run);
+    exhaustive(&mut run, &mut rng, share(20));
+    while Instant::now() < share(70) {
+        run.try_case("small pairs at a boundary", &case::small(&mut rng));
+        run.try_case("small pairs, unfit", &case::unfit(&mut rng));
+    }
+    for (w, h) in [(64, 48), (160, 120), (320, 240), (640, 480)] {
+        run.try_case("textured pairs", &case::textured(&mut rng, w, h));
+    }
+    while Instant::now() < share(100) {
+        let (w, h) = (40 + rng.below(120), 30 + rng.below(90));
+        run.try_case("textured pairs", &case::textured(&mut rng, w, h));
+    }
+    run.report();
+    println!("no difference");
+}

@@ -1,0 +1,161 @@
+//! Plombrisa from Rust: safe functions over the exports of the proved library. Names and order of the exports are fixed in
+//! crates/plombrisa/src/lib.rt; nothing checks these declarations against them but the differential runs.
+
+mod raw {
+    #[allow(improper_ctypes)]
+    unsafe extern "C" {
+        pub fn plombrisa_match_block(
+            left: *const u8, left_len: usize, left_width: usize, left_height: usize,
+            right: *const u8, right_len: usize, right_width: usize, right_height: usize,
+            min_disparity: i32, num_disparities: i32, block_size: usize,
+            min_correlation: f32, uniqueness_ratio: f32, lr_consistency: bool, lr_max_diff: f32, subpixel: bool,
+            semi_global: bool, sgm_p1: f32, sgm_p2: f32,
+            out: *mut f32, out_len: usize, whole_room: *mut u64, whole_len: usize, float_room: *mut f32, float_len: usize,
+        ) -> u32;
+
+        pub fn plombrisa_raw_volume(
+            left: *const u8, left_len: usize, left_width: usize, left_height: usize,
+            right: *const u8, right_len: usize, right_width: usize, right_height: usize,
+            min_disparity: i32, num_disparities: i32, block_size: usize, from_right: bool,
+            out: *mut f32, out_len: usize, whole_room: *mut u64, whole_len: usize,
+        ) -> u32;
+    }
+}
+
+/// A grey picture: row-major bytes and the size that the caller says it has.
+#[derive(Debug, Clone, Copy)]
+pub struct Picture<'a> {
+    pub bytes: &'a [u8],
+    pub width: usize,
+    pub height: usize,
+}
+
+/// The options of a match, with the names and defaults of the Rust.
+#[derive(Debug, Clone, Copy)]
+pub struct Options {
+    pub min_disparity: i32,
+    pub num_disparities: i32,
+    pub block_size: usize,
+    pub min_correlation: f32,
+    pub uniqueness_ratio: f32,
+    pub lr_consistency: bool,
+    pub lr_max_diff: f32,
+    pub subpixel: bool,
+    pub semi_global: bool,
+    pub sgm_p1: f32,
+    pub sgm_p2: f32,
+}
+
+impl Default for Options {
+    fn default() -> Self {
+        Self {
+            min_disparity: 0,
+            num_disparities: 64,
+            block_size: 7,
+            min_correlation: 0.5,
+            uniqueness_ratio: 0.03,
+            lr_consistency: true,
+            lr_max_diff: 1.0,
+            subpixel: true,
+            semi_global: false,
+            sgm_p1: 0.1,
+            sgm_p2: 1.5,
+        }
+    }
+}
+
+/// Why a call was refused: the rows of the table of document 01, each with its number.
+#[derive(Debug, Clone, Copy, PartialEq, Eq)]
+#[repr(u32)]
+pub enum Refusal {
+    SizeOutOfRange = 1,
+    ByteCount = 2,
+    SizesDiffer = 3,
+    BlockEven = 4,
+    BlockTooLarge = 5,
+    CountNotPositive = 6,
+    CountTooLarge = 7,
+    PictureSmallerThanBlock = 8,
+    FirstOutOfRange = 9,
+    PenaltyOutOfRange = 10,
+    OutputLength = 11,
+    RoomTooShort = 12,
+}
+
+impl Refusal {
+    pub fn number(self) -> u32 {
+        self as u32
+    }
+
+    /// The refusal with a number of the table.
+    pub fn of_number(number: u32) -> Option<Self> {
+        use Refusal::*;
+        let all = [
+            SizeOutOfRange, ByteCount, SizesDiffer, BlockEven, BlockTooLarge, CountNotPositive, CountTooLarge,
+            PictureSmallerThanBlock, FirstOutOfRange, PenaltyOutOfRange, OutputLength, RoomTooShort,
+        ];
+        all.into_iter().find(|refusal| refusal.number() == number)
+    }
+}
+
+fn answer(number: u32) -> Result<(), Refusal> {
+    match number {
+        0 => Ok(()),
+        n => Err(Refusal::of_number(n).expect("the library answers numbers of the table")),
+    }
+}
+
+/// The cells that a match needs of the whole-number room: 5(w+1)(h+1).
+pub fn whole_cells(width: usize, height: usize) -> usize {
+    5 * (width + 1) * (height + 1)
+}
+
+/// The cells that a match needs of the float room: V + w·h, and 3V + w·h in semi-global mode.
+pub fn float_cells(width: usize, height: usize, count: usize, semi_global: bool) -> usize {
+    let volume = count * width * height;
+    let area = width * height;
+    if semi_global { 3 * volume + area } else { volume + area }
+}
+
+/// A match into the caller's own output and rooms.
+pub fn match_block_in(
+    left: Picture, right: Picture, options: &Options, out: &mut [f32], whole_room: &mut [u64], float_room: &mut [f32],
+) -> Result<(), Refusal> {
+    // Safety: each pointer comes with the length of its slice, and the three mutable slices are apart.
+    answer(unsafe {
+        raw::plombrisa_match_block(
+            left.bytes.as_ptr(), left.bytes.len(), left.width, left.height,
+            right.bytes.as_ptr(), right.bytes.len(), right.width, right.height,
+            options.min_disparity, options.num_disparities, options.block_size,
+            options.min_correlation, options.uniqueness_ratio, options.lr_consistency, options.lr_max_diff, options.subpixel,
+            options.semi_global, options.sgm_p1, options.sgm_p2,
+            out.as_mut_ptr(), out.len(), whole_room.as_mut_ptr(), whole_room.len(), float_room.as_mut_ptr(), float_room.len(),
+        )
+    })
+}
+
+/// A match with rooms of its own: the map, a NaN for each blank cell.
+pub fn match_block(left: Picture, right: Picture, options: &Options) -> Result<Vec<f32>, Refusal> {
+    let (w, h) = (left.width.min(2048), left.height.min(2048));
+    let count = options.num_disparities.clamp(0, 256) as usize;
+    let mut out = vec![0.0; w * h];
+    let mut whole_room = vec![0; whole_cells(w, h)];
+    let mut float_room = vec![0.0; float_cells(w, h, count, options.semi_global)];
+    match_block_in(left, right, options, &mut out, &mut whole_room, &mut float_room)?;
+    Ok(out)
+}
+
+/// The raw volume into the caller's own output and room: index k of pixel (x, y) in cell k·w·h + y·w + x.
+pub fn raw_volume_in(
+    left: Picture, right: Picture, options: &Options, from_right: bool, out: &mut [f32], whole_room: &mut [u64],
+) -> Result<(), Refusal> {
+    // Safety: each pointer comes with the length of its slice, and the two mutable slices are apart.
+    answer(unsafe {
+        raw::plombrisa_raw_volume(
+            left.bytes.as_ptr(), left.bytes.len(), left.width, left.height,
+            right.bytes.as_ptr(), right.bytes.len(), right.width, right.height,
+            options.min_disparity, options.num_disparities, options.block_size, from_right,
+            out.as_mut_ptr(), out.len(), whole_room.as_mut_ptr(), whole_room.len(),
+        )
+    })
+}
