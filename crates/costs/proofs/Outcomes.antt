@@ -6,11 +6,12 @@ use lib.IntN.{ℤ, natAbs}
 use lib.Ieee.{Float}
 use lib.ListN.{length}
 use Rattle.options.specs.declared.Side.{Side}
+use Rattle.lists.specs.Lists.{cleared}
 use Rattle.refusals.specs.declared.Call.{Call}
 use Rattle.refusals.specs.Refusals.{refusal, wholeCells}
 use Rattle.refusals.specs.Accepted.{Sizes}
 use Rattle.costs.specs.Raw.{referenceOf, targetOf, rawCost}
-use Rattle.costs.specs.Rooms.{Frame, Sized, cleared}
+use Rattle.costs.specs.Rooms.{Frame, Sized}
 use Rattle.costs.specs.Volume.{planesOf, rawVolume}
 use Rattle.costs.specs.Outcome.{volumeFor, outAfter, roomAfter, RawDone}
 
@@ -59,7 +60,7 @@ refused (suc n) q side left right out room e some = record { answer = e; output 
 
 -- one that is not has made the volume and cleared the room
 pub made : (q : Call) (side : Side) (left right : List ℕ) (out out′ : List Float) (room room′ : List ℕ) → 0 ≡ refusal q
-    → out′ ≡ volumeFor q side left right → room′ ≡ cleared (wholeCells q) room → RawDone 0 q side left right out out′ room room′
+    → out′ ≡ volumeFor q side left right → room′ ≡ cleared 0 (wholeCells q) room → RawDone 0 q side left right out out′ room room′
 unfolding outAfter roomAfter
 made q side left right out out′ room room′ e o m = record { answer = e; output = o; rooms = m }
 

@@ -14,11 +14,11 @@ use Rattle.options.specs.declared.Side.{Side}
 use Rattle.windows.specs.Table.{tableOf, crossAt}
 use Rattle.windows.proofs.Tables.{length-table}
 use Rattle.lists.proofs.Lists.{put-next, listOf-same, filled-end}
-use Rattle.lists.specs.Lists.{listOf}
+use Rattle.lists.specs.Lists.{listOf, cleared}
 use Rattle.costs.specs.Raw.{shiftOf}
 use Rattle.costs.specs.Roots.{rootTable, pictureTables}
 use Rattle.windows.specs.Window.{cells}
-use Rattle.costs.specs.Rooms.{Frame, Picture, fiveParts, RoomOf, cleared}
+use Rattle.costs.specs.Rooms.{Frame, Picture, fiveParts, RoomOf}
 use Rattle.costs.specs.Volume.{planeCell, planeCells, planesCell, planesOf}
 use Rattle.lists.proofs.Rows.{in-column, in-row}
 use Rattle.costs.proofs.Readings.{length-roots}
@@ -141,7 +141,7 @@ module _ (w h r : ℕ) (a b room P Q : List ℕ) (p : P ≡ pictureTables w h r 
 
 -- the first n cells are set to zero
 pub cleared-is : (n : ℕ) (before room zeros : List ℕ) → zeros ≡ replicate (length (midOf 0 (n - 0) room)) 0 → n ≤ length room → drop n room ≡ drop n before
-    → putMid 0 (n - 0) room zeros ≡ cleared n before
+    → putMid 0 (n - 0) room zeros ≡ cleared 0 n before
 cleared-is n before room zeros made fits same =
     let size : length (midOf 0 (n - 0) room) ≡ n = mid-len 0 n room fits ∙ sub-zero n in
     ap₂ (λ z l. z ++ l) (made ∙ ap (λ k. replicate k 0) size) (ap (λ k. drop k room) (sub-zero n) ∙ same)

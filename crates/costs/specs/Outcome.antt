@@ -11,7 +11,7 @@ use Rattle.options.specs.declared.Side.{Side}
 use Rattle.refusals.specs.declared.Call.{Call}
 use Rattle.refusals.specs.declared.Output.the-variants.{Volume}
 use Rattle.refusals.specs.Refusals.{refusal, wholeCells}
-use Rattle.costs.specs.Rooms.{cleared}
+use Rattle.lists.specs.Lists.{cleared}
 use Rattle.costs.specs.Volume.{rawVolume}
 
 -- what is asked for and lent: no mode, so no penalty is read, and no float room
@@ -46,7 +46,7 @@ outAfter (suc n) q side left right out = out
 
 -- THE ROOM afterwards: zero in the cells that were needed, and after a refusal as it was
 unfoldable pub roomAfter : ℕ → Call → List ℕ → List ℕ
-roomAfter zero q room = cleared (wholeCells q) room
+roomAfter zero q room = cleared 0 (wholeCells q) room
 roomAfter (suc n) q room = room
 
 -- THE OUTCOME of a raw volume: the answer n, the output and the room afterwards

@@ -3,7 +3,7 @@ use Prim.Native.Nat.{ℕ, _+_, _*_, _/_, _≤_, _<_}
 use mathlib.Core.Path.{_≡_}
 use mathlib.Core.List.{List, _++_}
 use lib.IntN.{ℤ, pos, natAbs, _+ℤ_}
-use lib.ListN.{length, getD, take, drop, replicate}
+use lib.ListN.{length, getD, take}
 use Rattle.options.specs.declared.BlockMatchOptions.{BlockMatchOptions}
 use Rattle.options.specs.Limits.{sideMost, blockMost, countMost, firstMost}
 use Rattle.lists.specs.Rows.{levelAt}
@@ -90,7 +90,3 @@ pub record Tabled (outLength : ℕ) (room a b : List ℕ) (w h r : ℕ) (first :
 pub record Accepted (left right : List ℕ) (w h : ℕ) (options : BlockMatchOptions) (outLength roomLength : ℕ) : Type 0 where
   pub sizes : Sized outLength roomLength left right w h (options .«block_size» / 2) (options .«min_disparity») (natAbs (options .«num_disparities»))
   pub whole : options .«num_disparities» ≡ pos (natAbs (options .«num_disparities»))
-
--- the room afterwards: its first five tables' cells are zero, the rest are as they were
-abbrev pub cleared : ℕ → List ℕ → List ℕ
-cleared n room = replicate n 0 ++ drop n room

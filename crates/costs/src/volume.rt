@@ -4,11 +4,12 @@ ghost use Prim.Native.Nat.{ℕ, _+_, _*_, _/_, _≤_, _<_};
 ghost use lib.IntN.{natAbs};
 ghost use lib.ListN.{length, drop, replicate};
 ghost use mathlib.Core.List.{_++_};
+ghost use Rattle.lists.specs.Lists.{cleared};
 ghost use Rattle.options.specs.Limits.{firstMost, countMost};
 ghost use Rattle.windows.specs.Window.{cells};
 ghost use Rattle.costs.specs.Raw.{shiftOf};
 ghost use Rattle.costs.specs.Volume.{planesOf, rawVolume};
-ghost use Rattle.costs.specs.Rooms.{Sized, Tabled, Accepted, cleared};
+ghost use Rattle.costs.specs.Rooms.{Sized, Tabled, Accepted};
 use crate::plane::raw_plane;
 use crate::tables::fill_picture;
 use lists::clear_u64;
@@ -67,7 +68,7 @@ pub fn fill_planes(out: &mut [f32], room: &mut [u64], a: &[u8], b: &[u8], plan: 
 // The raw volume of the reference a and the target b; the room's cells that were needed are zero afterwards.
 pub fn make_volume(out: &mut [f32], room: &mut [u64], a: &[u8], b: &[u8], plan: Plan)
     requires { ⌜ Sized (length (now out)) (length (now room)) (now a) (now b) (plan .w) (plan .h) (plan .r) (plan .first) (plan .count) ⌝ }
-    ensures { λ _. ⌜ (now (out .exit) ≡ planesOf (plan .side) (plan .w) (plan .h) (plan .r) (plan .first) (plan .count) (now (a .entry)) (now (b .entry))) × (now (room .exit) ≡ cleared (5 * cells (plan .w) (plan .h)) (now (room .entry))) ⌝ }
+    ensures { λ _. ⌜ (now (out .exit) ≡ planesOf (plan .side) (plan .w) (plan .h) (plan .r) (plan .first) (plan .count) (now (a .entry)) (now (b .entry))) × (now (room .exit) ≡ cleared 0 (5 * cells (plan .w) (plan .h)) (now (room .entry))) ⌝ }
 {
     let w = plan.w;
     let h = plan.h;
@@ -94,7 +95,7 @@ pub fn volume_of(
     room: &mut [u64],
 )
     requires { ⌜ Accepted (now left) (now right) w h opts (length (now out)) (length (now room)) ⌝ }
-    ensures { λ _. ⌜ (now (out .exit) ≡ rawVolume side w h (opts .«block_size» / 2) (opts .«min_disparity») (natAbs (opts .«num_disparities»)) (now (left .entry)) (now (right .entry))) × (now (room .exit) ≡ cleared (5 * cells w h) (now (room .entry))) ⌝ }
+    ensures { λ _. ⌜ (now (out .exit) ≡ rawVolume side w h (opts .«block_size» / 2) (opts .«min_disparity») (natAbs (opts .«num_disparities»)) (now (left .entry)) (now (right .entry))) × (now (room .exit) ≡ cleared 0 (5 * cells w h) (now (room .entry))) ⌝ }
 {
     let plan = Plan {
         w,

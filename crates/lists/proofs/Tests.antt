@@ -1,7 +1,7 @@
 -- Tests of pairs, of numbers and of every number below n. Assumes nothing.
 use Prim.Native.Nat.{ℕ, zero, suc, _<_, _≤_}
 use mathlib.Core.Path.{_≡_, refl, sym, ap₂}
-use mathlib.Core.Bool.{Bool, true, false, _&&_, true≢false}
+use mathlib.Core.Bool.{Bool, true, false, _&&_, _||_, true≢false}
 use mathlib.Core.Logic.{_⊎_, inl, inr, ⊎-elim}
 use native.Mathlib.Nat.{not-suc-le-zero, le-of-suc-le-suc, eq-or-lt-of-le}
 use native.Mathlib.Decide.{decLt}
@@ -14,6 +14,10 @@ lt-or-le a b = elim (decLt a b) [ yes l ↦ inl l | no n ↦ inr (omega arith) ]
 pub and-both : (s t : Bool) → s && t ≡ true → (s ≡ true) × (t ≡ true)
 and-both true t e = (refl, e)
 and-both false t e = absurd (true≢false (sym e))
+
+pub or-false : (s t : Bool) → s || t ≡ false → (s ≡ false) × (t ≡ false)
+or-false true t e = absurd (true≢false e)
+or-false false t e = (refl, e)
 
 pub all-of : (n : ℕ) (p : ℕ → Bool) → allBelow n p ≡ true → (i : ℕ) → i < n → p i ≡ true
 unfolding allBelow

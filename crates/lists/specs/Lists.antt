@@ -1,12 +1,17 @@
 -- Lists that are made from a rule, a test of every number below n, and a walk along a list. Definitions only.
 use Prim.Native.Nat.{ℕ, zero, suc}
 use mathlib.Core.Bool.{Bool, true, _&&_}
-use mathlib.Core.List.{List, [], _∷_}
+use mathlib.Core.List.{List, [], _∷_, _++_}
+use lib.ListN.{replicate, drop}
 
 -- f 0, f 1, .., f (n - 1)
 unfoldable pub listOf : {A : Type 0} → ℕ → (ℕ → A) → List A
 listOf zero f = []
 listOf (suc n) f = f 0 ∷ listOf n (λ k. f (suc k))
+
+-- the first n cells are z, the rest are as they were
+abbrev pub cleared : {A : Type 0} → A → ℕ → List A → List A
+cleared z n cells = replicate n z ++ drop n cells
 
 -- p holds of 0, 1, .., n - 1
 unfoldable pub allBelow : ℕ → (ℕ → Bool) → Bool

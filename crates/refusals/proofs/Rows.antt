@@ -8,12 +8,12 @@ use native.Mathlib.Omega.{arith}
 use borrow.Author.Tests.{ltb-false, eqb-true, eqb-false, not-false}
 use lib.Dec.{eqb, ltb, lit<}
 use lib.IntN.{pos, natAbs}
-use Rattle.lists.proofs.Tests.{and-both}
+use Rattle.lists.proofs.Tests.{and-both, or-false}
 use Rattle.options.specs.Limits.{sideMost, blockMost, countMost}
 use Rattle.refusals.specs.declared.Call.{Call}
 use Rattle.refusals.specs.Refusals.{Row, firstOf, inRange, pictureRows, searchRows, penaltyRows, outCells, wholeCells, floatCells, lentRows, table, refusal}
 use Rattle.refusals.specs.Accepted.{Sizes, Accepted}
-use Rattle.refusals.proofs.Tests.{ranged, or-false, positive, at-most, near}
+use Rattle.refusals.proofs.Tests.{ranged, positive, at-most, near}
 
 -- ---- rows after rows
 -- the first answer unless that is 0, which is no refusal

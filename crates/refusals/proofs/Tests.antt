@@ -7,7 +7,7 @@ use borrow.Author.Tests.{leb-true, ltb-false}
 use lib.Dec.{leb, ltb}
 use lib.IntN.{ℤ, pos, negsuc, natAbs, negℤ, pos-ne-negsuc}
 use lib.Signed.{ltZ}
-use Rattle.lists.proofs.Tests.{and-both}
+use Rattle.lists.proofs.Tests.{and-both, or-false}
 use Rattle.options.specs.Limits.{sideMost, firstMost}
 use Rattle.refusals.specs.Refusals.{inRange}
 
@@ -29,10 +29,6 @@ ranged w h e =
       h-least = leb-true 1 h (y .0);
       h-most = leb-true h sideMost (y .1);
     }
-
-pub or-false : (s t : Bool) → s || t ≡ false → (s ≡ false) × (t ≡ false)
-or-false true t e = absurd (true≢false e)
-or-false false t e = (refl, e)
 
 -- signed numbers within their limits
 pub positive : (z : ℤ) → ltZ z (pos 1) ≡ false → (z ≡ pos (natAbs z)) × (1 ≤ natAbs z)

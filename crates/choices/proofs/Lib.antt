@@ -1,0 +1,11 @@
+-- The lemmas that several functions' proofs cite, and what the walks find.
+pub mod Indices
+pub mod Signed
+pub mod Sides
+pub mod Columns
+pub mod Costs
+pub mod Walking
+pub mod FloatOrder
+pub mod Largest
+pub mod Smallest
+pub mod Examples

@@ -1,0 +1,46 @@
+-- The disparity with an index, as a sum of signed numbers: small enough for every type on its way to a float. Assumes nothing.
+use Prim.Native.Nat.{ℕ, suc, _+_, _-_, _<_, _≤_, _^_}
+use mathlib.Core.Path.{_≡_, refl, _∙_}
+use mathlib.Core.Bool.{Bool, true, false, cond}
+use native.Mathlib.Omega.{arith}
+use lib.Dec.{T, ltb, leb, le→leb, lt→ltb}
+use lib.IntN.{ℤ, pos, negsuc, natAbs, _+ℤ_}
+use lib.Ieee.{binary32, inFloat}
+use borrow.Author.Tests.{ltb-true, ltb-false}
+use mir.Syntax.{w32}
+use mir.Val.{SFits, toZ, ofZ}
+use Rattle.options.specs.Limits.{countMost, firstMost}
+use mir.ValLaws.{toZ-ofZ, toZ-pos}
+
+sum-natAbs : (z : ℤ) (k b : ℕ) → natAbs z + k ≤ b → natAbs (z +ℤ pos k) ≤ b
+sum-natAbs (pos a) k b h = h
+sum-natAbs (negsuc a) k b h = go (ltb k (suc a)) refl
+  where
+    go : (t : Bool) → ltb k (suc a) ≡ t → natAbs (cond t (negsuc (suc a - suc k)) (pos (k - suc a))) ≤ b
+    go true e = omega (arith, ltb-true k (suc a) e)
+    go false e = omega (arith, ltb-false k (suc a) e)
+
+fits-of : (z : ℤ) → natAbs z ≤ 8192 → SFits w32 z
+fits-of (pos a) h = record { sfits = omega arith }
+fits-of (negsuc a) h = record { sfits = omega arith }
+
+-- a float holds a small number exactly
+pub float-of : (z : ℤ) → natAbs z ≤ 8192 → T (inFloat binary32 z)
+unfolding inFloat
+float-of (pos a) h = le→leb a (2 ^ 24) (omega arith)
+float-of (negsuc a) h = lt→ltb a (2 ^ 24) (omega arith)
+
+module _ (first : ℤ) (k : ℕ) (back : toZ w32 (ofZ w32 first) ≡ first) (small : natAbs first ≤ firstMost) (few : k < countMost) where
+  pub sum-small : natAbs (first +ℤ pos k) ≤ 8192
+  sum-small = sum-natAbs first k 8192 (omega arith)
+
+  read : toZ w32 (ofZ w32 first) +ℤ toZ w32 k ≡ first +ℤ pos k
+  read = rw (back, toZ-pos w32 k (omega arith))
+
+  -- what the machine adds fits
+  pub sum-fits : SFits w32 (toZ w32 (ofZ w32 first) +ℤ toZ w32 k)
+  sum-fits = rw read (fits-of (first +ℤ pos k) sum-small)
+
+  -- and is the sum
+  pub sum-read : toZ w32 (ofZ w32 (toZ w32 (ofZ w32 first) +ℤ toZ w32 k)) ≡ first +ℤ pos k
+  sum-read = toZ-ofZ w32 _ sum-fits ∙ read

@@ -1,0 +1,7 @@
+-- The definitions that the contracts of `choices` cite, and what the two walks find.
+pub mod Frame
+pub mod Subpixel
+pub mod Block
+pub mod SemiGlobal
+pub mod LeftRight
+pub mod Extremes

@@ -1,0 +1,22 @@
+-- `maps::range_valid` meets its contract. Assumes nothing.
+use mathlib.Core.Path.{_∙_}
+use borrow.Author.Needs.{needs}
+use Rattle.maps.specs.declared.Extent.the-variants as answer
+use Rattle.maps.proofs.Facts.{range-is, range-23}
+use Rattle.maps.proofs.range_valid.Statement.{statement}
+use Rattle.maps.proofs.range_valid.Tie as tie
+
+size-good-requires : tie.Need-size-good-requires
+size-good-requires c κs = search needs
+
+range-in-requires : tie.Need-range-in-requires
+range-in-requires c κs = search needs
+
+returns : tie.Need-returns
+returns c = c .range-in .ensures ∙ range-is _ _ _ _ (c .before .before .size-good .ensures) (c .before .if1 .taken)
+
+returns-2 : tie.Need-returns-2
+returns-2 c = range-23 _ _ _ _ (c .before .size-good .ensures) (c .if1 .left)
+
+pub range-valid-spec : {M : Type 1} → statement M
+range-valid-spec = tie.close (tie.spec size-good-requires range-in-requires returns returns-2)

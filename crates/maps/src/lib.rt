@@ -1,0 +1,258 @@
+// A disparity map over cells that the caller owns: one cell, whether it is valid, how many are, the least and the greatest, and the
+// cover figure. The covered functions take the sizes and the slice; `MapView` holds them together, and its functions take it apart.
+use numbers::plain::is_finite;
+use options::SIDE_MOST;
+ghost use mathlib.Core.Path.{_≡_};
+ghost use Rattle.maps.specs.Cells.{inBuffer, cellOf};
+ghost use Rattle.maps.specs.Map.{goodSize, gotAt, validAt, valids, validCount, coverOf, lesserOf, greaterOf, widen, widens, validRange};
+
+// One cell of a map: the mark of a cell that has no number, or a number.
+pub enum Cell {
+    Mark,
+    At(f32),
+}
+
+impl Cell {
+    // A cell in a float buffer: the mark is a NaN.
+    pub fn stored(self) -> f32
+        ensures { λ r. ⌜ r ≡ inBuffer self ⌝ }
+    {
+        match self {
+            Cell::Mark => 0.0 / 0.0,
+            Cell::At(d) => d,
+        }
+    }
+
+    // The cell that a number of a float buffer stands for: every NaN is the mark.
+    pub fn of_cell(v: f32) -> Cell
+        ensures { λ r. ⌜ r ≡ cellOf v ⌝ }
+    {
+        if v != v { Cell::Mark } else { Cell::At(v) }
+    }
+}
+
+// The answer to a question about one pixel's cell.
+pub enum Got {
+    Cell(Cell),
+    Refused(u8),
+}
+
+// The answer to whether one pixel's cell is valid.
+pub enum Validity {
+    Is(bool),
+    Refused(u8),
+}
+
+// A number of cells, or the cover figure.
+pub enum Number {
+    Is(usize),
+    Refused(u8),
+}
+
+// The least and the greatest valid number.
+pub enum Extent {
+    None,
+    Span(f32, f32),
+    Refused(u8),
+}
+
+// Whether a map has a size from 1 to 2,048 each way, and as many cells as pixels.
+pub fn size_good(width: usize, height: usize, length: usize) -> bool
+    ensures { λ r. ⌜ r ≡ goodSize width height length ⌝ }
+{
+    if width < 1 {
+        return false;
+    }
+    if SIDE_MOST < width {
+        return false;
+    }
+    if height < 1 {
+        return false;
+    }
+    if SIDE_MOST < height {
+        return false;
+    }
+    length == width * height
+}
+
+// The cell of a pixel.
+pub fn cell_at(width: usize, height: usize, cells: &[f32], x: usize, y: usize) -> Got
+    ensures { λ r. ⌜ r ≡ gotAt width height (now (cells .entry)) x y ⌝ }
+{
+    if size_good(width, height, cells.len()) {
+        if width <= x {
+            return Got::Refused(26);
+        }
+        if height <= y {
+            return Got::Refused(26);
+        }
+        let i = y * width + x;
+        let c = Cell::of_cell(cells[i]);
+        Got::Cell(c)
+    } else {
+        Got::Refused(23)
+    }
+}
+
+// Whether the cell of a pixel is valid, which a finite number is.
+pub fn valid_at(width: usize, height: usize, cells: &[f32], x: usize, y: usize) -> Validity
+    ensures { λ r. ⌜ r ≡ validAt width height (now (cells .entry)) x y ⌝ }
+{
+    if size_good(width, height, cells.len()) {
+        if width <= x {
+            return Validity::Refused(26);
+        }
+        if height <= y {
+            return Validity::Refused(26);
+        }
+        let i = y * width + x;
+        let v = is_finite(cells[i]);
+        Validity::Is(v)
+    } else {
+        Validity::Refused(23)
+    }
+}
+
+// How many cells are valid.
+pub fn count_valid(width: usize, height: usize, cells: &[f32]) -> Number
+    ensures { λ r. ⌜ r ≡ validCount width height (now (cells .entry)) ⌝ }
+{
+    if size_good(width, height, cells.len()) {
+        let n = valids_in(cells);
+        Number::Is(n)
+    } else {
+        Number::Refused(23)
+    }
+}
+
+// How many numbers of a slice are finite.
+fn valids_in(cells: &[f32]) -> usize
+    ensures { λ r. ⌜ r ≡ valids (now (cells .entry)) ⌝ }
+{
+    let mut n: usize = 0;
+    let mut i: usize = 0;
+    while i < cells.len() {
+        if is_finite(cells[i]) {
+            n += 1;
+        }
+        i += 1;
+    }
+    n
+}
+
+// The cover figure: valid cells to a thousand, rounded down.
+pub fn cover(width: usize, height: usize, cells: &[f32]) -> Number
+    ensures { λ r. ⌜ r ≡ coverOf width height (now (cells .entry)) ⌝ }
+{
+    if size_good(width, height, cells.len()) {
+        let n = valids_in(cells);
+        Number::Is(1000 * n / (width * height))
+    } else {
+        Number::Refused(23)
+    }
+}
+
+// The lesser of a further number and the least: an equal one leaves the least.
+fn lesser(x: f32, least: f32) -> f32
+    ensures { λ r. ⌜ r ≡ lesserOf x least ⌝ }
+{
+    if x < least { x } else { least }
+}
+
+// The greater of a further number and the greatest.
+fn greater(x: f32, greatest: f32) -> f32
+    ensures { λ r. ⌜ r ≡ greaterOf x greatest ⌝ }
+{
+    if greatest < x { x } else { greatest }
+}
+
+// The least and the greatest once a further number is seen.
+fn widened(range: Extent, x: f32) -> Extent
+    ensures { λ r. ⌜ r ≡ widen range x ⌝ }
+{
+    if is_finite(x) {
+        match range {
+            Extent::None => Extent::Span(x, x),
+            Extent::Span(lo, hi) => {
+                let least = lesser(x, lo);
+                let greatest = greater(x, hi);
+                Extent::Span(least, greatest)
+            }
+            Extent::Refused(n) => Extent::Refused(n),
+        }
+    } else {
+        range
+    }
+}
+
+// The least and the greatest of a slice's valid numbers.
+fn range_in(cells: &[f32]) -> Extent
+    ensures { λ r. ⌜ r ≡ widens Extent.None (now (cells .entry)) ⌝ }
+{
+    let mut range = Extent::None;
+    let mut i: usize = 0;
+    while i < cells.len() {
+        range = widened(range, cells[i]);
+        i += 1;
+    }
+    range
+}
+
+// The least and the greatest valid number of a map.
+pub fn range_valid(width: usize, height: usize, cells: &[f32]) -> Extent
+    ensures { λ r. ⌜ r ≡ validRange width height (now (cells .entry)) ⌝ }
+{
+    if size_good(width, height, cells.len()) {
+        range_in(cells)
+    } else {
+        Extent::Refused(23)
+    }
+}
+
+// A map that borrows the caller's own cells.
+pub struct MapView<'a> {
+    pub width: usize,
+    pub height: usize,
+    pub cells: &'a [f32],
+}
+
+impl<'a> MapView<'a> {
+    // A view of the caller's cells.
+    pub fn new(width: usize, height: usize, cells: &'a [f32]) -> MapView<'a>
+        ensures { λ r. ⌜ (r .width ≡ width) × ((r .height ≡ height) × (r .cells ≡ cells .entry)) ⌝ }
+    {
+        MapView {
+            width,
+            height,
+            cells,
+        }
+    }
+
+    // The cell of a pixel.
+    pub fn get(self, x: usize, y: usize) -> Got
+        ensures { λ r. ⌜ r ≡ gotAt (self .entry .width) (self .entry .height) (now (self .entry .cells)) x y ⌝ }
+    {
+        cell_at(self.width, self.height, self.cells, x, y)
+    }
+
+    // Whether the cell of a pixel is valid.
+    pub fn valid(self, x: usize, y: usize) -> Validity
+        ensures { λ r. ⌜ r ≡ validAt (self .entry .width) (self .entry .height) (now (self .entry .cells)) x y ⌝ }
+    {
+        valid_at(self.width, self.height, self.cells, x, y)
+    }
+
+    // How many cells are valid.
+    pub fn valid_count(self) -> Number
+        ensures { λ r. ⌜ r ≡ validCount (self .entry .width) (self .entry .height) (now (self .entry .cells)) ⌝ }
+    {
+        count_valid(self.width, self.height, self.cells)
+    }
+
+    // The least and the greatest valid number.
+    pub fn valid_range(self) -> Extent
+        ensures { λ r. ⌜ r ≡ validRange (self .entry .width) (self .entry .height) (now (self .entry .cells)) ⌝ }
+    {
+        range_valid(self.width, self.height, self.cells)
+    }
+}
