@@ -150,7 +150,7 @@ fn out_cells(call: Call) -> usize
 }
 
 // The cells that the float room needs: none for the raw volume, V + w·h for a block map, 3V + w·h for a semi-global one.
-fn float_cells(call: Call) -> usize
+pub fn float_cells(call: Call) -> usize
     requires { ⌜ Sizes call ⌝ }
     ensures { λ n. ⌜ n ≡ floatCells call (call .output) ⌝ }
 {

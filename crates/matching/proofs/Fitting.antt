@@ -1,0 +1,48 @@
+-- What an accepted match offers to the functions that make its map. Assumes nothing.
+use Prim.Native.Nat.{ℕ, _*_, _≤_}
+use mathlib.Core.Path.{_≡_}
+use mathlib.Core.List.{List}
+use native.Mathlib.Nat.{mul-le-mul}
+use native.Mathlib.Omega.{arith}
+use lib.IntN.{natAbs}
+use Rattle.options.specs.Limits.{sideMost, countMost, firstMost}
+use Rattle.options.specs.declared.BlockMatchOptions.{BlockMatchOptions}
+use Rattle.matching.specs.Maps.{half, countOf}
+use Rattle.matching.specs.Fit.{Fit, Counted, cellsIn}
+
+pub record Ready (w h : ℕ) (o : BlockMatchOptions) (outLength : ℕ) : Type 0 where
+  pub out : outLength ≡ w * h
+  pub across : half o ≤ w
+  pub down : half o ≤ h
+  pub wide : w ≤ sideMost
+  pub high : h ≤ sideMost
+  pub first : natAbs (o .«min_disparity») ≤ firstMost
+  pub few : countOf o ≤ countMost
+  pub counted : Counted o
+
+pub ready : {left right : List ℕ} {w h : ℕ} {o : BlockMatchOptions} {outLength wholeLength : ℕ} → Fit left right w h o outLength wholeLength → Ready w h o outLength
+ready z =
+    let s = z .volume .sizes in
+    record {
+      out = z .out-cells;
+      across = omega (arith, s .frame .across);
+      down = omega (arith, s .frame .down);
+      wide = s .frame .w-most;
+      high = s .frame .h-most;
+      first = s .first-most;
+      few = s .count-most;
+      counted = record { whole = z .volume .whole; few = s .count-most };
+    }
+
+-- the cells of a volume are few
+pub semi-sizes : {left right : List ℕ} {w h : ℕ} {o : BlockMatchOptions} {outLength wholeLength : ℕ} → Fit left right w h o outLength wholeLength
+    → (w * h ≤ sideMost * sideMost) × (cellsIn w h o ≤ countMost * (sideMost * sideMost))
+semi-sizes z =
+    let s = z .volume .sizes in
+    let area = mul-le-mul (s .frame .w-most) (s .frame .h-most) in
+    (area, mul-le-mul (s .count-most) area)
+
+-- the same with an output and a room of the same lengths
+pub refit : {left right : List ℕ} {w h : ℕ} {o : BlockMatchOptions} {outLength outLength′ wholeLength wholeLength′ : ℕ} → Fit left right w h o outLength wholeLength
+    → outLength′ ≡ outLength → wholeLength′ ≡ wholeLength → Fit left right w h o outLength′ wholeLength′
+refit z e f = rw (e, f) z

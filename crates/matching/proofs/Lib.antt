@@ -1,0 +1,6 @@
+-- Lemmas that belong to no one function.
+pub mod Fitting
+pub mod SumPaths
+pub mod ThirdVolume
+pub mod Tail
+pub mod Outcomes

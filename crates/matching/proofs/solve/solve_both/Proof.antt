@@ -1,0 +1,51 @@
+-- `matching::solve::solve_both` meets its contract. Assumes nothing.
+use denote.Ref.{now}
+use Prim.Native.Nat.{_+_, _*_, _-_, _≤_}
+use mathlib.Core.Path.{_≡_, sym, ap, _∙_}
+use native.Mathlib.Omega.{arith}
+use lib.ListN.{length, replicate}
+use mathlib.Core.Bool.{false}
+use lib.IntN.{pos}
+use lib.Ieee.{fin}
+use Rattle.windows.specs.Window.{cells}
+use Rattle.matching.proofs.Tail.{cleared-twice}
+use Rattle.matching.proofs.Fitting.{refit}
+use borrow.Author.Needs.{needs}
+use Rattle.matching.proofs.solve.solve_both.Statement.{statement}
+use Rattle.matching.proofs.solve.solve_both.Tie as tie
+
+keep-right-requires : tie.Need-keep-right-requires
+keep-right-requires c κs = search needs
+
+test-left-requires : tie.Need-test-left-requires
+test-left-requires c κs =
+    let z = c .before .before .before .before .before .before .before .before .before .before .before .before .before .before .before .before .before .before in
+    let r = c .before .before .before .before .before .before .before .before .before .keep-right in
+    (refit (z .pre .0) (r .kept .1 .1 .1 .1 .1 .0) (r .kept .1 .1 .1 .1 .1 .1 .0), r .kept .1 .1 .1 .1 .1 .1 .1 .0 ∙ z .pre .1)
+
+same-length : tie.Need-same-length
+same-length c = search needs
+
+same-length-2 : tie.Need-same-length-2
+same-length-2 c = search needs
+
+same-length-3 : tie.Need-same-length-3
+same-length-3 c = search needs
+
+returns : tie.Need-returns
+returns c =
+    let z = c .before .before .before .before .before .before .before .before .before .before .before .before .before .before .before .before .before .before .before .before .before .before .before .before .before in
+    let r = c .before .before .before .before .before .before .before .before .before .before .before .before .before .before .before .before .keep-right in
+    let t = c .before .before .before .before .before .before .test-left in
+    (t .ensures .0 ∙ rw (r .ensures .0), t .ensures .1 ∙ rw (r .ensures .1) (cleared-twice 0 (5 * cells (z .args .w) (z .args .h)) (now (z .args .whole))), t .ensures .2 ∙ ap (λ n. replicate n (fin false 0 (pos 0))) (r .kept .1 .1 .1 .1 .1 .1 .1 .0))
+
+pub solve-both-spec : {M : Type 1} → statement M
+solve-both-spec =
+    tie.close
+    (tie.spec
+    keep-right-requires
+    test-left-requires
+    same-length
+    same-length-2
+    same-length-3
+    returns)

@@ -1,0 +1,4 @@
+-- The definitions that the contracts of `matching` cite: `Maps` and `Outcome` are what a reader must believe, `Fit` is cited by inner functions only.
+pub mod Maps
+pub mod Outcome
+pub mod Fit

@@ -1,0 +1,26 @@
+-- Runs of cells in one list: the raw costs, the matching costs, the path costs and the sums all lie in one room. Definitions only.
+use Prim.Native.Nat.{ℕ, _+_, _≤_}
+use mathlib.Core.List.{List, _++_}
+use mathlib.Core.Logic.{_⊎_}
+use lib.ListN.{length, take, drop}
+use lib.Ieee.{Float}
+
+-- the n cells of v from index at
+abbrev pub run : ℕ → ℕ → List Float → List Float
+run n at v = take n (drop at v)
+
+-- v with the cells from index at replaced by s
+abbrev pub put : List Float → ℕ → List Float → List Float
+put v at s = take at v ++ s ++ drop (at + length s) v
+
+-- two runs of n cells, from a and from b, lie in v and have no cell in common
+pub record Runs (v : List Float) (a b n : ℕ) : Type 0 where
+  pub a-in : a + n ≤ length v
+  pub b-in : b + n ≤ length v
+  pub apart : (a + n ≤ b) ⊎ (b + n ≤ a)
+
+-- the volumes of n cells for the matching costs, the path costs and the sums: any two are such runs
+pub record Room (v : List Float) (n costs paths sums : ℕ) : Type 0 where
+  pub costs-paths : Runs v costs paths n
+  pub costs-sums : Runs v costs sums n
+  pub paths-sums : Runs v paths sums n

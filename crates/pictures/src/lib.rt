@@ -1,0 +1,143 @@
+// The grey picture: row-major bytes, read at a pixel and between pixels, with the Rust's clamping and its order of products and sums.
+use options::is_side;
+ghost use mathlib.Core.Path.{_≡_};
+ghost use mathlib.Core.Bool.{true, false};
+ghost use Prim.Native.Nat.{_+_, _*_, _<_};
+ghost use lib.ListN.{length};
+ghost use lib.Ieee.{isNan};
+ghost use Rattle.lists.specs.Rows.{levelAt};
+ghost use Rattle.options.specs.Limits.{isSide};
+ghost use Rattle.pictures.specs.Picture.{shapeOf, pixelOf};
+ghost use Rattle.pictures.specs.Bilinear.{clamped, Readable, placeOf, blended, valueAt, sampleOf};
+
+// The level of a pixel.
+pub enum Level {
+    At(u8),
+    Refused(u8),
+}
+
+// A reading between pixels.
+pub enum Sample {
+    At(f64),
+    Refused(u8),
+}
+
+// Whether a picture has sides in range and as many bytes as pixels, or else the number that refuses it.
+enum Shape {
+    Good,
+    Refused(u8),
+}
+
+// Where a coordinate lies along one side: the pixel at or before it, the next one, and the next one's share.
+struct Place {
+    first: usize,
+    next: usize,
+    share: f64,
+}
+
+// The shape: 1 for a side out of range, 2 for a wrong number of bytes.
+fn check_shape(bytes: usize, width: usize, height: usize) -> Shape
+    ensures { λ r. ⌜ r ≡ shapeOf bytes width height ⌝ }
+{
+    if !is_side(width) {
+        return Shape::Refused(1);
+    }
+    if !is_side(height) {
+        return Shape::Refused(1);
+    }
+    if bytes == width * height {
+        Shape::Good
+    } else {
+        Shape::Refused(2)
+    }
+}
+
+// The byte of a pixel inside.
+fn byte_inside(pic: &[u8], width: usize, x: usize, y: usize) -> u8
+    requires { ⌜ (x < width) × (y * width + x < length (now pic)) ⌝ }
+    ensures { λ r. ⌜ r ≡ levelAt width (now (pic .entry)) x y ⌝ }
+{
+    let at = y * width + x;
+    pic[at]
+}
+
+// The level of the pixel (x, y): 1 and 2 as for the shape, then 26 for a pixel outside.
+pub fn pixel(pic: &[u8], width: usize, height: usize, x: usize, y: usize) -> Level
+    ensures { λ r. ⌜ r ≡ pixelOf (now (pic .entry)) width height x y ⌝ }
+{
+    match check_shape(pic.len(), width, height) {
+        Shape::Refused(n) => Level::Refused(n),
+        Shape::Good => {
+            if width <= x {
+                return Level::Refused(26);
+            }
+            if height <= y {
+                return Level::Refused(26);
+            }
+            Level::At(byte_inside(pic, width, x, y))
+        }
+    }
+}
+
+// Rust's `clamp`: minus zero stays minus zero.
+fn clamp(x: f64, low: f64, high: f64) -> f64
+    ensures { λ r. ⌜ r ≡ clamped x low high ⌝ }
+{
+    let y = if x < low { low } else { x };
+    if high < y { high } else { y }
+}
+
+// Where the coordinate t lies along a side of n pixels.
+fn place_on_side(n: usize, t: f64) -> Place
+    requires { ⌜ (isSide n ≡ true) × (isNan t ≡ false) ⌝ }
+    ensures { λ r. ⌜ r ≡ placeOf n t ⌝ }
+{
+    let c = clamp(t, 0.0, n as f64 - 1.0);
+    let first = std::num::truncating_f64_to_u64(c) as usize;
+    let next = if first + 1 < n - 1 { first + 1 } else { n - 1 };
+    let share = c - first as f64;
+    Place { first, next, share }
+}
+
+// The four levels, each times its shares, added in the Rust's order.
+fn blend(p00: f64, p10: f64, p01: f64, p11: f64, dx: f64, dy: f64) -> f64
+    ensures { λ r. ⌜ r ≡ blended p00 p10 p01 p11 dx dy ⌝ }
+{
+    p00 * (1.0 - dx) * (1.0 - dy) + p10 * dx * (1.0 - dy) + p01 * (1.0 - dx) * dy + p11 * dx * dy
+}
+
+// The value at (xf, yf) of a picture of a good shape.
+fn value(pic: &[u8], width: usize, height: usize, xf: f64, yf: f64) -> f64
+    requires { ⌜ Readable (now pic) width height xf yf ⌝ }
+    ensures { λ r. ⌜ r ≡ valueAt (now (pic .entry)) width height xf yf ⌝ }
+{
+    let x = place_on_side(width, xf);
+    let y = place_on_side(height, yf);
+    let x0 = x.first;
+    let x1 = x.next;
+    let y0 = y.first;
+    let y1 = y.next;
+    let p00 = byte_inside(pic, width, x0, y0) as f64;
+    let p10 = byte_inside(pic, width, x1, y0) as f64;
+    let p01 = byte_inside(pic, width, x0, y1) as f64;
+    let p11 = byte_inside(pic, width, x1, y1) as f64;
+    blend(p00, p10, p01, p11, x.share, y.share)
+}
+
+// The picture read at (xf, yf), clamped to its border: 1 and 2 as for the shape, then 25 for a coordinate that is a NaN.
+pub fn bilinear(pic: &[u8], width: usize, height: usize, xf: f64, yf: f64) -> Sample
+    ensures { λ r. ⌜ r ≡ sampleOf (now (pic .entry)) width height xf yf ⌝ }
+{
+    match check_shape(pic.len(), width, height) {
+        Shape::Refused(n) => Sample::Refused(n),
+        Shape::Good => {
+            if xf != xf {
+                return Sample::Refused(25);
+            }
+            if yf != yf {
+                return Sample::Refused(25);
+            }
+            Sample::At(value(pic, width, height, xf, yf))
+        }
+    }
+}

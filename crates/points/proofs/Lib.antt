@@ -1,0 +1,4 @@
+-- Lemmas that the functions' proofs share, and the theorems.
+pub mod Facts
+pub mod Laws
+pub mod Filling

@@ -1,0 +1,3 @@
+-- What the functions of `points` answer. Definitions only.
+pub mod Point
+pub mod Records
