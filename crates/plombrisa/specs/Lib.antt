@@ -1,0 +1,2 @@
+-- The definitions that the contracts of `plombrisa` cite.
+pub mod Options

@@ -1,0 +1,46 @@
+-- A host's plain parameters as the library's records. Definitions only.
+use Prim.Native.Nat.{ℕ}
+use mathlib.Core.Bool.{Bool, true, false}
+use lib.IntN.{ℤ}
+use lib.Ieee.{Float}
+use Rattle.options.specs.declared.BlockMatchOptions.{BlockMatchOptions}
+use Rattle.options.specs.declared.Side.{Side}
+use Rattle.options.specs.declared.Side.the-variants.{Left, Right}
+use Rattle.options.specs.Options.{defaultOptions}
+
+-- which picture is the reference
+abbrev pub sideOf : Bool → Side
+sideOf true = Right
+sideOf false = Left
+
+-- the options of a match, one parameter each
+abbrev pub matchOptions : ℤ → ℤ → ℕ → Float → Float → Bool → Float → Bool → Bool → Float → Float → BlockMatchOptions
+matchOptions first count block least margin leftRight apart subpixel semiGlobal p1 p2 = record {
+  «min_disparity» = first;
+  «num_disparities» = count;
+  «block_size» = block;
+  «min_correlation» = least;
+  «uniqueness_ratio» = margin;
+  «lr_consistency» = leftRight;
+  «lr_max_diff» = apart;
+  subpixel = subpixel;
+  «semi_global» = semiGlobal;
+  «sgm_p1» = p1;
+  «sgm_p2» = p2;
+}
+
+-- the options of a raw volume, which reads these three
+abbrev pub rawOptions : ℤ → ℤ → ℕ → BlockMatchOptions
+rawOptions first count block = record {
+  «min_disparity» = first;
+  «num_disparities» = count;
+  «block_size» = block;
+  «min_correlation» = defaultOptions .«min_correlation»;
+  «uniqueness_ratio» = defaultOptions .«uniqueness_ratio»;
+  «lr_consistency» = defaultOptions .«lr_consistency»;
+  «lr_max_diff» = defaultOptions .«lr_max_diff»;
+  subpixel = defaultOptions .subpixel;
+  «semi_global» = defaultOptions .«semi_global»;
+  «sgm_p1» = defaultOptions .«sgm_p1»;
+  «sgm_p2» = defaultOptions .«sgm_p2»;
+}
