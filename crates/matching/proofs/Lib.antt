@@ -4,3 +4,4 @@ pub mod SumPaths
 pub mod ThirdVolume
 pub mod Tail
 pub mod Outcomes
+pub mod Ranges
