@@ -8,4 +8,3 @@ pub mod Walking
 pub mod FloatOrder
 pub mod Largest
 pub mod Smallest
-pub mod Examples

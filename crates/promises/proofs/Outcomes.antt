@@ -1,0 +1,112 @@
+-- OUTCOMES ARE DETERMINED: for every public call any two outcomes that its statement allows are equal. Each theorem has its call's name. Assumes nothing.
+use Prim.Native.Nat.{ℕ}
+use mathlib.Core.Path.{_≡_, sym, _∙_}
+use mathlib.Core.List.{List}
+use lib.ListN.{length}
+use lib.Ieee.{Float}
+use Rattle.numbers.specs.Root.{rootOf}
+use Rattle.numbers.specs.Narrow.{narrowed}
+use Rattle.numbers.specs.Away.{roundedAway}
+use Rattle.options.specs.declared.BlockMatchOptions.{BlockMatchOptions}
+use Rattle.options.specs.declared.Side.{Side}
+use Rattle.options.specs.Options.{defaultOptions}
+use Rattle.refusals.specs.declared.Call.{Call}
+use Rattle.refusals.specs.Refusals as refusals
+use Rattle.pictures.specs.declared.Level.{Level}
+use Rattle.pictures.specs.declared.Sample.{Sample}
+use Rattle.pictures.specs.Picture.{pixelOf}
+use Rattle.pictures.specs.Bilinear.{sampleOf}
+use Rattle.maps.specs.declared.Got.{Got}
+use Rattle.maps.specs.declared.Validity.{Validity}
+use Rattle.maps.specs.declared.Number.{Number}
+use Rattle.maps.specs.declared.Extent.{Extent}
+use Rattle.maps.specs.Map.{gotAt, validAt, validCount, validRange, coverOf}
+use Rattle.points.specs.declared.Intrinsics.{Intrinsics}
+use Rattle.points.specs.declared.Point3.{Point3}
+use Rattle.points.specs.declared.PointRecord.{PointRecord}
+use Rattle.points.specs.declared.Filled.{Filled}
+use Rattle.points.specs.Point.{pointOf}
+use Rattle.points.specs.Records.{answerOf, listAfter}
+use Rattle.costs.specs.Outcome.{rawCall, RawDone}
+use Rattle.costs.proofs.Outcomes as costs
+use Rattle.matching.specs.Outcome.{matchCall, MatchDone}
+use Rattle.matching.proofs.Outcomes as matching
+
+-- two answers that are both what a definition says
+both : {A : Type 0} {d r r′ : A} → r ≡ d → r′ ≡ d → r ≡ r′
+both e e′ = e ∙ sym e′
+
+-- a match: its number, the output and both rooms afterwards
+pub match-block : (left : List ℕ) (w h : ℕ) (right : List ℕ) (w′ h′ : ℕ) (o : BlockMatchOptions) (out : List Float) (whole : List ℕ) (float : List Float)
+    (n n′ : ℕ) (out₁ out₂ : List Float) (whole₁ whole₂ : List ℕ) (float₁ float₂ : List Float)
+    → MatchDone n (matchCall left w h right w′ h′ o (length out) (length whole) (length float)) o left right out out₁ whole whole₁ float float₁
+    → MatchDone n′ (matchCall left w h right w′ h′ o (length out) (length whole) (length float)) o left right out out₂ whole whole₂ float float₂
+    → (n ≡ n′) × (out₁ ≡ out₂) × (whole₁ ≡ whole₂) × (float₁ ≡ float₂)
+match-block left w h right w′ h′ o out whole float n n′ out₁ out₂ whole₁ whole₂ float₁ float₂ =
+    matching.one-outcome (matchCall left w h right w′ h′ o (length out) (length whole) (length float)) o left right out whole float n n′ out₁ out₂ whole₁ whole₂ float₁ float₂
+
+-- a raw volume: its number, the output and the room afterwards
+pub raw-volume : (left : List ℕ) (w h : ℕ) (right : List ℕ) (w′ h′ : ℕ) (o : BlockMatchOptions) (side : Side) (out : List Float) (room : List ℕ)
+    (n n′ : ℕ) (out₁ out₂ : List Float) (room₁ room₂ : List ℕ)
+    → RawDone n (rawCall left w h right w′ h′ o (length out) (length room)) side left right out out₁ room room₁
+    → RawDone n′ (rawCall left w h right w′ h′ o (length out) (length room)) side left right out out₂ room room₂
+    → (n ≡ n′) × (out₁ ≡ out₂) × (room₁ ≡ room₂)
+raw-volume left w h right w′ h′ o side out room n n′ out₁ out₂ room₁ room₂ =
+    costs.one-outcome (rawCall left w h right w′ h′ o (length out) (length room)) side left right out room n n′ out₁ out₂ room₁ room₂
+
+-- the refusal of a call
+pub refusal : (q : Call) (n n′ : ℕ) → n ≡ refusals.refusal q → n′ ≡ refusals.refusal q → n ≡ n′
+refusal q n n′ = both
+
+-- the options where none are given
+pub defaults : (o o′ : BlockMatchOptions) → o ≡ defaultOptions → o′ ≡ defaultOptions → o ≡ o′
+defaults o o′ = both
+
+-- root, rounding and narrowing
+pub root : (n : ℕ) (r r′ : Float) → r ≡ rootOf n → r′ ≡ rootOf n → r ≡ r′
+root n r r′ = both
+
+pub round-half-away : (x r r′ : Float) → r ≡ roundedAway x → r′ ≡ roundedAway x → r ≡ r′
+round-half-away x r r′ = both
+
+pub narrow : (x r r′ : Float) → r ≡ narrowed x → r′ ≡ narrowed x → r ≡ r′
+narrow x r r′ = both
+
+-- the grey picture
+pub pixel : (pic : List ℕ) (w h x y : ℕ) (r r′ : Level) → r ≡ pixelOf pic w h x y → r′ ≡ pixelOf pic w h x y → r ≡ r′
+pixel pic w h x y r r′ = both
+
+pub bilinear : (pic : List ℕ) (w h : ℕ) (xf yf : Float) (r r′ : Sample) → r ≡ sampleOf pic w h xf yf → r′ ≡ sampleOf pic w h xf yf → r ≡ r′
+bilinear pic w h xf yf r r′ = both
+
+-- a view of a map: its three fields
+pub new : {Cells : Type 0} (w h : ℕ) (cells : Cells) (w₁ w₂ h₁ h₂ : ℕ) (cells₁ cells₂ : Cells) → (w₁ ≡ w) × ((h₁ ≡ h) × (cells₁ ≡ cells)) → (w₂ ≡ w) × ((h₂ ≡ h) × (cells₂ ≡ cells))
+    → (w₁ ≡ w₂) × (h₁ ≡ h₂) × (cells₁ ≡ cells₂)
+new w h cells w₁ w₂ h₁ h₂ cells₁ cells₂ e e′ = (both (e .0) (e′ .0), both (e .1 .0) (e′ .1 .0), both (e .1 .1) (e′ .1 .1))
+
+-- the map, by its view: `get`, `valid`, `valid_count` and `valid_range` answer what `cell_at`, `valid_at`, `count_valid` and `range_valid` do
+pub get : (w h : ℕ) (cells : List Float) (x y : ℕ) (r r′ : Got) → r ≡ gotAt w h cells x y → r′ ≡ gotAt w h cells x y → r ≡ r′
+get w h cells x y r r′ = both
+
+pub valid : (w h : ℕ) (cells : List Float) (x y : ℕ) (r r′ : Validity) → r ≡ validAt w h cells x y → r′ ≡ validAt w h cells x y → r ≡ r′
+valid w h cells x y r r′ = both
+
+pub valid-count : (w h : ℕ) (cells : List Float) (r r′ : Number) → r ≡ validCount w h cells → r′ ≡ validCount w h cells → r ≡ r′
+valid-count w h cells r r′ = both
+
+pub valid-range : (w h : ℕ) (cells : List Float) (r r′ : Extent) → r ≡ validRange w h cells → r′ ≡ validRange w h cells → r ≡ r′
+valid-range w h cells r r′ = both
+
+-- the cover figure
+pub cover : (w h : ℕ) (cells : List Float) (r r′ : Number) → r ≡ coverOf w h cells → r′ ≡ coverOf w h cells → r ≡ r′
+cover w h cells r r′ = both
+
+-- one point, and the list of points: its answer and the list afterwards
+pub rectified-point : (k : Intrinsics) (x y d : Float) (r r′ : Point3) → r ≡ pointOf k x y d → r′ ≡ pointOf k x y d → r ≡ r′
+rectified-point k x y d r r′ = both
+
+pub points : (w h : ℕ) (cells : List Float) (k : Intrinsics) (list : List PointRecord) (r r′ : Filled) (list₁ list₂ : List PointRecord)
+    → (r ≡ answerOf w h cells k (length list)) × (list₁ ≡ listAfter w h cells k list)
+    → (r′ ≡ answerOf w h cells k (length list)) × (list₂ ≡ listAfter w h cells k list)
+    → (r ≡ r′) × (list₁ ≡ list₂)
+points w h cells k list r r′ list₁ list₂ e e′ = (both (e .0) (e′ .0), both (e .1) (e′ .1))

@@ -1,0 +1,96 @@
+-- A call for each number that can be answered. Definitions only.
+use Prim.Native.Nat.{ℕ}
+use mathlib.Core.Path.{_≡_}
+use mathlib.Core.Bool.{Bool, true, false}
+use mathlib.Core.List.{List, [], _∷_, map}
+use lib.IntN.{ℤ, pos, negsuc}
+use lib.Ieee.{Float, nan, fin}
+use Rattle.refusals.specs.declared.Call.{Call}
+use Rattle.refusals.specs.declared.Output.the-variants.{Map}
+use Rattle.refusals.specs.Refusals.{refusal}
+use Rattle.pictures.specs.declared.Level.the-variants as level
+use Rattle.pictures.specs.declared.Sample.the-variants as sample
+use Rattle.pictures.specs.Picture.{pixelOf}
+use Rattle.pictures.specs.Bilinear.{sampleOf}
+use Rattle.maps.specs.declared.Got.the-variants as got
+use Rattle.maps.specs.declared.Validity.the-variants as validity
+use Rattle.maps.specs.declared.Number.the-variants as number
+use Rattle.maps.specs.declared.Extent.the-variants as extent
+use Rattle.maps.specs.Map.{gotAt, validAt, validCount, validRange, coverOf}
+use Rattle.points.specs.declared.Intrinsics.{Intrinsics}
+use Rattle.points.specs.declared.Filled.the-variants.{Refused}
+use Rattle.points.specs.Records.{answerOf}
+
+-- a match of a left picture w wide and 3 high with so many bytes and a right one likewise, the first disparity, count, block side and
+-- mode, a penalty, and the lengths of the output and of the whole-number room; penalty p2 is 1, and the float room has 105 cells
+abbrev matchOf : ℕ → ℕ → ℕ → ℕ → ℤ → ℤ → ℕ → Bool → Float → ℕ → ℕ → Call
+matchOf w bytes w′ bytes′ first count block mode p1 out whole = record {
+  output = Map;
+  «left_w» = w;
+  «left_h» = 3;
+  «left_bytes» = bytes;
+  «right_w» = w′;
+  «right_h» = 3;
+  «right_bytes» = bytes′;
+  first = first;
+  count = count;
+  block = block;
+  «semi_global» = mode;
+  p1 = p1;
+  p2 = fin false 1 (pos 0);
+  «out_len» = out;
+  «whole_len» = whole;
+  «float_len» = 105;
+}
+
+abbrev one : Float
+one = fin false 1 (pos 0)
+
+-- one that is accepted, and then one for each of the numbers 1 to 12, which differs from the first in what its row names
+abbrev pub calls : List Call
+calls =
+    matchOf 5 15 5 15 (pos 0) (pos 2) 3 true one 15 120
+    ∷ matchOf 0 0 5 15 (pos 0) (pos 2) 3 true one 15 120
+    ∷ matchOf 5 14 5 15 (pos 0) (pos 2) 3 true one 15 120
+    ∷ matchOf 5 15 4 12 (pos 0) (pos 2) 3 true one 15 120
+    ∷ matchOf 5 15 5 15 (pos 0) (pos 2) 2 true one 15 120
+    ∷ matchOf 5 15 5 15 (pos 0) (pos 2) 33 true one 15 120
+    ∷ matchOf 5 15 5 15 (pos 0) (negsuc 0) 3 true one 15 120
+    ∷ matchOf 5 15 5 15 (pos 0) (pos 257) 3 true one 15 120
+    ∷ matchOf 5 15 5 15 (pos 0) (pos 2) 5 true one 15 120
+    ∷ matchOf 5 15 5 15 (negsuc 4096) (pos 2) 3 true one 15 120
+    ∷ matchOf 5 15 5 15 (pos 0) (pos 2) 3 true nan 15 120
+    ∷ matchOf 5 15 5 15 (pos 0) (pos 2) 3 true one 14 120
+    ∷ matchOf 5 15 5 15 (pos 0) (pos 2) 3 true one 15 119
+    ∷ []
+
+-- a camera with this fx and baseline; fy 1, cx and cy 0
+abbrev cameraOf : Float → Float → Intrinsics
+cameraOf fx baseline = record { fx = fx; fy = one; cx = fin false 0 (pos 0); cy = fin false 0 (pos 0); baseline = baseline }
+
+-- EVERY NUMBER is answered for some call
+pub record Reached : Type 0 where
+  -- a match: 0 to 12
+  pub matches : map refusal calls ≡ 0 ∷ 1 ∷ 2 ∷ 3 ∷ 4 ∷ 5 ∷ 6 ∷ 7 ∷ 8 ∷ 9 ∷ 10 ∷ 11 ∷ 12 ∷ []
+  -- the picture of one byte: a width 0, a byte too many, a coordinate that is a NaN, and a pixel outside
+  pub pixel-1 : pixelOf (7 ∷ []) 0 1 0 0 ≡ level.Refused 1
+  pub pixel-2 : pixelOf (7 ∷ 7 ∷ []) 1 1 0 0 ≡ level.Refused 2
+  pub pixel-26 : pixelOf (7 ∷ []) 1 1 1 0 ≡ level.Refused 26
+  pub pixel-at : pixelOf (7 ∷ []) 1 1 0 0 ≡ level.At 7
+  pub bilinear-1 : sampleOf (7 ∷ []) 0 1 one one ≡ sample.Refused 1
+  pub bilinear-2 : sampleOf (7 ∷ 7 ∷ []) 1 1 one one ≡ sample.Refused 2
+  pub bilinear-25 : sampleOf (7 ∷ []) 1 1 nan one ≡ sample.Refused 25
+  pub bilinear-at : sampleOf (7 ∷ []) 1 1 one one ≡ sample.At (fin false 7 (pos 0))
+  -- the map of one cell: a cell too many, and a pixel outside
+  pub get-23 : gotAt 1 1 (one ∷ one ∷ []) 0 0 ≡ got.Refused 23
+  pub get-26 : gotAt 1 1 (one ∷ []) 0 1 ≡ got.Refused 26
+  pub valid-23 : validAt 1 1 (one ∷ one ∷ []) 0 0 ≡ validity.Refused 23
+  pub valid-26 : validAt 1 1 (one ∷ []) 0 1 ≡ validity.Refused 26
+  pub valid-count-23 : validCount 1 1 (one ∷ one ∷ []) ≡ number.Refused 23
+  pub valid-range-23 : validRange 1 1 (one ∷ one ∷ []) ≡ extent.Refused 23
+  pub cover-23 : coverOf 1 1 (one ∷ one ∷ []) ≡ number.Refused 23
+  -- the points of one cell: fx a NaN, a baseline of 0, a cell too many, and a list without room
+  pub points-21 : answerOf 1 1 (one ∷ []) (cameraOf nan one) 1 ≡ Refused 21
+  pub points-22 : answerOf 1 1 (one ∷ []) (cameraOf one (fin false 0 (pos 0))) 1 ≡ Refused 22
+  pub points-23 : answerOf 1 1 (one ∷ one ∷ []) (cameraOf one one) 1 ≡ Refused 23
+  pub points-24 : answerOf 1 1 (one ∷ []) (cameraOf one one) 0 ≡ Refused 24

@@ -1,0 +1,3 @@
+-- Document 01's worked examples.
+pub mod Pictures
+pub mod Examples

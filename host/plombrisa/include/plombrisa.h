@@ -1,0 +1,47 @@
+/* The functions that the library exports. A slice is its pointer and then its length; its cells may not be shared with another
+ * slice of the same call that is written. Every number that is answered is 0 or the number of a refusal, which leaves every
+ * lent cell as it was. docs/STATEMENTS.md says where each statement is proved. */
+#ifndef PLOMBRISA_H
+#define PLOMBRISA_H
+
+#include <stdbool.h>
+#include <stddef.h>
+#include <stdint.h>
+
+/* The map of two pictures: cell (x, y) in cell y*w + x of out, a NaN where it is blank. whole_room needs 5(w+1)(h+1) cells,
+ * float_room V + w*h, or 3V + w*h in semi-global mode, with V = num_disparities*w*h. */
+uint32_t plombrisa_match_block(
+    const uint8_t *left, size_t left_len, size_t left_width, size_t left_height,
+    const uint8_t *right, size_t right_len, size_t right_width, size_t right_height,
+    int32_t min_disparity, int32_t num_disparities, size_t block_size,
+    float min_correlation, float uniqueness_ratio, bool lr_consistency, float lr_max_diff, bool subpixel,
+    bool semi_global, float sgm_p1, float sgm_p2,
+    float *out, size_t out_len, uint64_t *whole_room, size_t whole_len, float *float_room, size_t float_len);
+
+/* The raw costs from one side: index k of pixel (x, y) in cell k*w*h + y*w + x of out, negative infinity where it is blank. */
+uint32_t plombrisa_raw_volume(
+    const uint8_t *left, size_t left_len, size_t left_width, size_t left_height,
+    const uint8_t *right, size_t right_len, size_t right_width, size_t right_height,
+    int32_t min_disparity, int32_t num_disparities, size_t block_size, bool from_right,
+    float *out, size_t out_len, uint64_t *whole_room, size_t whole_len);
+
+/* The level of one pixel, and a picture read between pixels. */
+uint32_t plombrisa_pixel(
+    const uint8_t *pic, size_t pic_len, size_t width, size_t height, size_t x, size_t y, uint8_t *level);
+uint32_t plombrisa_bilinear(
+    const uint8_t *pic, size_t pic_len, size_t width, size_t height, double x, double y, double *value);
+
+/* A map's figures: how many cells are valid, that to a thousand cells, and the least and greatest valid number (some is 0, and
+ * the two are left as they were, where no cell is valid). */
+uint32_t plombrisa_valid_count(const float *cells, size_t cells_len, size_t width, size_t height, uint64_t *count);
+uint32_t plombrisa_cover(const float *cells, size_t cells_len, size_t width, size_t height, uint64_t *permille);
+uint32_t plombrisa_valid_range(
+    const float *cells, size_t cells_len, size_t width, size_t height, uint32_t *some, float *least, float *greatest);
+
+/* The point of a pixel and a disparity, in the rectified left camera's frame; false, and nothing written, where there is none.
+ * The intrinsics are taken as they are. */
+bool plombrisa_rectified_point(
+    double fx, double fy, double cx, double cy, double baseline, double x, double y, double disparity,
+    double *px, double *py, double *pz);
+
+#endif

@@ -1,0 +1,48 @@
+//! The examples of the README: the text there is the text compiled here, and both answer the worked example of document 01.
+use std::fs::read_to_string;
+use std::path::{Path, PathBuf};
+use std::process::Command;
+
+fn repository() -> PathBuf {
+    Path::new(env!("CARGO_MANIFEST_DIR")).join("../..")
+}
+
+/// What a command prints; it must succeed.
+fn printed(command: &mut Command) -> String {
+    let output = command.output().expect("the command runs");
+    assert!(output.status.success(), "{}", String::from_utf8_lossy(&output.stderr));
+    String::from_utf8(output.stdout).expect("text")
+}
+
+#[test]
+fn the_readme_shows_both() {
+    let readme = read_to_string(repository().join("README.md")).expect("README.md");
+    for name in ["match.c", "match.rs"] {
+        let text = read_to_string(repository().join("host/plombrisa/examples").join(name)).expect(name);
+        assert!(readme.contains(&text), "README.md does not show {name} as it is");
+    }
+}
+
+#[test]
+fn the_c_example_runs() {
+    let home = repository().join("host/plombrisa");
+    let program = Path::new(env!("CARGO_TARGET_TMPDIR")).join("match_c");
+    printed(
+        Command::new("cc")
+            .args(["-std=c11", "-Wall", "-Wextra", "-Werror", "-I"])
+            .arg(home.join("include"))
+            .arg(home.join("examples/match.c"))
+            .arg(repository().join("target/staticlib/libplombrisa.a"))
+            .arg("-o")
+            .arg(&program),
+    );
+    assert_eq!(printed(&mut Command::new(program)), "disparity at (2, 1): 1\n");
+}
+
+#[test]
+fn the_rust_example_runs() {
+    let cargo = std::env::var("CARGO").expect("cargo runs the tests");
+    let mut command = Command::new(cargo);
+    command.args(["run", "--quiet", "--release", "-p", "plombrisa", "--example", "match"]).current_dir(repository().join("host"));
+    assert_eq!(printed(&mut command), "disparity at (2, 1): 1\n");
+}
