@@ -91,6 +91,19 @@ fn measure(pair: &Pair, count: usize, semi_global: bool, repeats: usize) -> Row 
     Row { ours, theirs, our_bytes, their_bytes }
 }
 
+/// How the time grows: one size, then twice the pixels, then twice the disparities.
+fn growth(repeats: usize) {
+    println!();
+    println!("| mode | 320x240x32 s | twice the pixels (320x480x32) | twice the disparities (320x240x64) |");
+    println!("|---|---|---|---|");
+    for semi_global in [false, true] {
+        let seconds = |h, count| measure(&pair(320, h), count, semi_global, repeats).ours;
+        let (one, pixels, disparities) = (seconds(240, 32), seconds(480, 32), seconds(240, 64));
+        let mode = if semi_global { "semi-global" } else { "block" };
+        println!("| {mode} | {one:.3} | times {:.2} | times {:.2} |", pixels / one, disparities / one);
+    }
+}
+
 fn main() {
     let repeats = std::env::args().nth(1).map_or(3, |n| n.parse().expect("REPEATS is a whole number"));
     println!("block 7, left-right on, best of {repeats}; every map was compared cell by cell");
@@ -112,5 +125,5 @@ fn main() {
             );
         }
     }
-    println!("The cost grows with w·h·count: nanoseconds per cell of the volume stay about the same from row to row.");
+    growth(repeats);
 }

@@ -36,88 +36,68 @@ here c = spots _ _ _ (entry (c .before) .pre .w-most) (entry (c .before) .pre .h
 add-side : tie.Need-add-side Inv-loop μ-loop
 add-side c = search needs
 
--- src/lib.rt:54:15
 slice-relend-prefix-clear-u64 : tie.Need-slice-relend-prefix-clear-u64 Inv-loop μ-loop
 slice-relend-prefix-clear-u64 c = first-fits (c .before .before .pre)
 
--- src/lib.rt:54:15
 slice-aggregate-clear-u64 : tie.Need-slice-aggregate-clear-u64 Inv-loop μ-loop
 slice-aggregate-clear-u64 c = sym (first-row (c .before .before .before .pre))
 
--- src/lib.rt:54:5
 clear-u64-requires : tie.Need-clear-u64-requires Inv-loop μ-loop
 clear-u64-requires c κs = tt
 
--- src/lib.rt:56:5
 loop-holds : tie.Need-loop-holds Inv-loop μ-loop
 loop-holds c =
     let p = c .before .before .before .before .before .before .pre in
     table-start _ _ _ _ _ (p .cells) (rw (first-row p) at (c .before .before .clear-u64 .ensures))
 
--- src/lib.rt:57:19
 mul-top : tie.Need-mul-top Inv-loop μ-loop
 mul-top c = omega (arith, here c)
 
--- src/lib.rt:58:25
 mul-end : tie.Need-mul-end Inv-loop μ-loop
 mul-end c = omega (arith, here c)
 
--- src/lib.rt:58:19
 add-end : tie.Need-add-end Inv-loop μ-loop
 add-end c = omega (arith, here c)
 
--- src/lib.rt:59:21
 mul-first : tie.Need-mul-first Inv-loop μ-loop
 mul-first c = omega (arith, here c)
 
--- src/lib.rt:60:20
 add-last : tie.Need-add-last Inv-loop μ-loop
 add-last c = omega (arith, here c)
 
--- src/lib.rt:61:20
 mul-add-levels : tie.Need-mul-add-levels Inv-loop μ-loop
 mul-add-levels c = omega (arith, here c)
 
--- src/lib.rt:61:20
 sub-add-levels : tie.Need-sub-add-levels Inv-loop μ-loop
 sub-add-levels c = omega (arith, here c)
 
--- src/lib.rt:61:20
 part-add-levels-start : tie.Need-part-add-levels-start Inv-loop μ-loop
 part-add-levels-start c = omega (arith, here c)
 
--- src/lib.rt:61:20
 part-add-levels-end : tie.Need-part-add-levels-end Inv-loop μ-loop
 part-add-levels-end c = omega (arith, here c)
 
--- src/lib.rt:61:42
 sub-add-levels-2 : tie.Need-sub-add-levels-2 Inv-loop μ-loop
 sub-add-levels-2 c = omega (arith, here (c .before))
 
--- src/lib.rt:61:42
 part-add-levels-start-2 : tie.Need-part-add-levels-start-2 Inv-loop μ-loop
 part-add-levels-start-2 c = omega (arith, here (c .before))
 
--- src/lib.rt:61:42
 part-add-levels-end-2 : tie.Need-part-add-levels-end-2 Inv-loop μ-loop
 part-add-levels-end-2 c = omega (arith, here (c .before))
 
--- src/lib.rt:61:9
 add-levels-requires : tie.Need-add-levels-requires Inv-loop μ-loop
 add-levels-requires c κs =
     let a = c .before .before .before in
     let p = entry a .pre in
     table-ready _ _ _ (small a) _ (p .w-most) (p .h-most) _ _ (a .loop .inv) (c .before .before .loop-test .taken) _ (p .bytes)
 
--- src/lib.rt:62:9
 add-y : tie.Need-add-y Inv-loop μ-loop
 add-y c = omega arith
 
--- src/lib.rt:56:5
 loop-less : tie.Need-loop-less Inv-loop μ-loop
 loop-less c = omega arith
 
--- src/lib.rt:56:5
 loop-again : tie.Need-loop-again Inv-loop μ-loop
 loop-again c =
     let t = c .before .before .before .before .before in
@@ -126,11 +106,9 @@ loop-again c =
     table-again _ _ _ (small a) _ (p .w-most) (p .h-most) _ _ (a .loop .inv) (t .loop-test .taken)
     _ _ _ (p .bytes) (λ x. ap (λ r. levelIn r x) (lent-row (entry a .args .w) (a .loop .y) (entry a .args .pic .now))) (c .before .before .add-levels .ensures)
 
--- src/lib.rt:49:1
 same-length : tie.Need-same-length Inv-loop μ-loop
 same-length c = c .before .loop .inv .size ∙ sym (entry (c .before) .pre .cells)
 
--- src/lib.rt:49:1
 returns : tie.Need-returns Inv-loop μ-loop
 returns c = table-done _ _ _ _ _ _ (c .before .loop .inv) (c .loop-test .left)
 
