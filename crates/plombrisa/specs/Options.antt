@@ -7,6 +7,7 @@ use Rattle.options.specs.declared.BlockMatchOptions.{BlockMatchOptions}
 use Rattle.options.specs.declared.Side.{Side}
 use Rattle.options.specs.declared.Side.the-variants.{Left, Right}
 use Rattle.options.specs.Options.{defaultOptions}
+use Rattle.points.specs.declared.Intrinsics.{Intrinsics}
 
 -- which picture is the reference
 abbrev pub sideOf : Bool → Side
@@ -44,3 +45,7 @@ rawOptions first count block = record {
   «sgm_p1» = defaultOptions .«sgm_p1»;
   «sgm_p2» = defaultOptions .«sgm_p2»;
 }
+
+-- the camera's numbers and the baseline, one parameter each
+abbrev pub intrinsicsOf : Float → Float → Float → Float → Float → Intrinsics
+intrinsicsOf fx fy cx cy baseline = record { fx = fx; fy = fy; cx = cx; cy = cy; baseline = baseline }

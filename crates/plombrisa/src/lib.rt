@@ -1,5 +1,9 @@
 // The functions for C and Rust hosts. A slice is its pointer and then its length. Names and order are fixed: nothing checks
 // the declaration on the other side.
+pub mod map;
+pub mod picture;
+pub mod point;
+
 ghost use mathlib.Core.Path.{_≡_};
 ghost use lib.ListN.{length};
 ghost use Rattle.costs.specs.Outcome.{rawCall, RawDone};

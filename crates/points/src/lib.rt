@@ -28,6 +28,7 @@ pub enum Point3 {
 }
 
 // A point, the pixel whose cell gave it, and that cell's disparity.
+#[repr(C)]
 pub struct PointRecord {
     pub x: f64,
     pub y: f64,

@@ -188,8 +188,9 @@ pub fn textured(rng: &mut Rng, w: usize, h: usize) -> Case {
 /// A small case with one or two things wrong with it.
 pub fn unfit(rng: &mut Rng) -> Case {
     let mut case = small(rng);
+    let (w, h) = case.left_size;
     for _ in 0..1 + rng.below(2) {
-        match rng.below(14) {
+        match rng.below(16) {
             0 => case.left_size.0 = rng.pick(&[0, 2049, usize::MAX, case.left_size.0 + 1]),
             1 => case.right_size.1 = rng.pick(&[0, 2049, usize::MAX / 2, case.right_size.1 + 1]),
             2 => case.left.push(0),
@@ -203,6 +204,11 @@ pub fn unfit(rng: &mut Rng) -> Case {
             10 => case.options.sgm_p1 = rng.pick(&[-1e-45, 1024.0001, f32::NAN, f32::INFINITY, -1.0]),
             11 => case.options.sgm_p2 = rng.pick(&[-0.5, 2000.0, f32::NAN, f32::NEG_INFINITY]),
             12 => case.spare.0 = rng.pick(&[-1, 1, 7]),
+            13 | 14 => {
+                // another size, with as many bytes
+                case.right_size = rng.pick(&[(w + 1, h), (w, h + 1), (w, 2 * h), (h + w, h)]);
+                case.right = picture(rng, case.right_size.0, case.right_size.1);
+            }
             _ => {
                 if rng.one_in(2) {
                     case.spare.1 = -1

@@ -3,19 +3,24 @@
 //! `differential [SEED] [SECONDS]`; the seed is printed, and the same seed gives the same cases in the same order.
 mod case;
 mod compare;
+mod maps;
+mod numbers;
+mod pictures;
+mod points;
 mod rng;
 mod shrink;
 
 use case::Case;
 use plombrisa::Options;
 use rng::Rng;
+use std::fmt::Debug;
 use std::process::exit;
 use std::time::{Duration, Instant};
 
 struct Run {
     seed: u64,
     tallies: Vec<(&'static str, usize)>,
-    refusals: [usize; 13],
+    refusals: [usize; 27],
 }
 
 impl Run {
@@ -27,7 +32,22 @@ impl Run {
             println!("smaller: {}\n{small:?}", compare::check(&small).unwrap_err());
             exit(1);
         }
-        self.refusals[case.refusal(false) as usize] += 1;
+        self.count(kind, case.refusal(false));
+    }
+
+    /// One case of another call on both sides, whose check gives its number; a difference ends the run.
+    fn try_other<C: Debug>(&mut self, kind: &'static str, case: &C, check: fn(&C) -> Result<u32, String>) {
+        match check(case) {
+            Ok(number) => self.count(kind, number),
+            Err(why) => {
+                println!("seed {}: {kind}: {why}\n{case:?}", self.seed);
+                exit(1);
+            }
+        }
+    }
+
+    fn count(&mut self, kind: &'static str, number: u32) {
+        self.refusals[number as usize] += 1;
         match self.tallies.iter_mut().find(|(name, _)| *name == kind) {
             Some((_, n)) => *n += 1,
             None => self.tallies.push((kind, 1)),
@@ -38,7 +58,7 @@ impl Run {
         for (kind, n) in &self.tallies {
             println!("{n:>9} {kind}");
         }
-        let given: Vec<String> = (1..13).map(|n| format!("{n}: {}", self.refusals[n])).collect();
+        let given: Vec<String> = (1..13).chain(21..27).map(|n| format!("{n}: {}", self.refusals[n])).collect();
         println!("{:>9} accepted; refusals {}", self.refusals[0], given.join(", "));
     }
 }
@@ -77,6 +97,19 @@ fn named(run: &mut Run) {
     }
 }
 
+/// The calls that read one picture or one map, each in turn.
+fn others(run: &mut Run, rng: &mut Rng, until: Instant) {
+    while Instant::now() < until {
+        let reading = pictures::reading(rng);
+        run.try_other("pixels", &reading, pictures::check_pixel);
+        run.try_other("bilinear readings", &reading, pictures::check_bilinear);
+        run.try_other("maps' figures", &maps::map(rng), maps::check);
+        let formula = points::formula(rng);
+        run.try_other(formula.kind(), &formula, points::check_formula);
+        run.try_other("lists of points", &points::listing(rng), points::check_list);
+    }
+}
+
 fn main() {
     let words: Vec<u64> = std::env::args().skip(1).map(|w| w.parse().expect("SEED and SECONDS are whole numbers")).collect();
     let seed = words.first().copied().unwrap_or(1);
@@ -85,11 +118,12 @@ fn main() {
     let start = Instant::now();
     let share = |part: u64| start + Duration::from_millis(seconds * 10 * part);
     let mut rng = Rng::new(seed);
-    let mut run = Run { seed, tallies: Vec::new(), refusals: [0; 13] };
+    let mut run = Run { seed, tallies: Vec::new(), refusals: [0; 27] };
 
     named(&mut run);
-    exhaustive(&mut run, &mut rng, share(20));
-    while Instant::now() < share(70) {
+    exhaustive(&mut run, &mut rng, share(15));
+    others(&mut run, &mut Rng::new(!seed), share(35));
+    while Instant::now() < share(75) {
         run.try_case("small pairs at a boundary", &case::small(&mut rng));
         run.try_case("small pairs, unfit", &case::unfit(&mut rng));
     }

@@ -1,4 +1,5 @@
-//! The Rust that Plombrisa is held to: `dense.rs` of calibration-rs, unchanged, behind the two names that it leans on.
+//! The Rust that Plombrisa is held to: `dense.rs` of calibration-rs, unchanged, behind the two names that it leans on, and the
+//! point formula of its `rectification.rs`.
 //! Its licence is in LICENSE.txt beside this crate.
 
 /// Stands for the repository's own error type, of which `dense.rs` uses this one function.
@@ -16,6 +17,7 @@ impl MvgError {
 pub type Result<T> = std::result::Result<T, MvgError>;
 
 pub mod dense;
+pub mod rectification;
 
 /// The same text with its raw volume handed out (see build.rs).
 #[allow(dead_code)]

@@ -44,4 +44,17 @@ bool plombrisa_rectified_point(
     double fx, double fy, double cx, double cy, double baseline, double x, double y, double disparity,
     double *px, double *py, double *pz);
 
+/* What the list holds of a cell that gives a point: the point, the pixel and the disparity. */
+typedef struct {
+    double x, y, z;
+    size_t column, row;
+    double disparity;
+} plombrisa_point_record;
+
+/* Writes the record of each valid positive cell, rows first; count is how many. Records beyond them are left as they were. */
+uint32_t plombrisa_points(
+    const float *cells, size_t cells_len, size_t width, size_t height,
+    double fx, double fy, double cx, double cy, double baseline,
+    plombrisa_point_record *list, size_t list_len, uint64_t *count);
+
 #endif

@@ -1,7 +1,17 @@
 //! Plombrisa from Rust: safe functions over the exports of the proved library. Names and order of the exports are fixed in
-//! crates/plombrisa/src/lib.rt; nothing checks these declarations against them but the differential runs.
+//! crates/plombrisa/src; nothing checks these declarations against them but the differential runs.
+
+mod maps;
+mod pictures;
+mod points;
+
+pub use maps::{Map, cover, cover_in, valid_count, valid_count_in, valid_range, valid_range_in};
+pub use pictures::{bilinear, bilinear_in, pixel, pixel_in};
+pub use points::{Intrinsics, PointRecord, points, points_in, rectified_point, rectified_point_in};
 
 mod raw {
+    use crate::PointRecord;
+
     #[allow(improper_ctypes)]
     unsafe extern "C" {
         pub fn plombrisa_match_block(
@@ -18,6 +28,38 @@ mod raw {
             right: *const u8, right_len: usize, right_width: usize, right_height: usize,
             min_disparity: i32, num_disparities: i32, block_size: usize, from_right: bool,
             out: *mut f32, out_len: usize, whole_room: *mut u64, whole_len: usize,
+        ) -> u32;
+
+        pub fn plombrisa_pixel(
+            pic: *const u8, pic_len: usize, width: usize, height: usize, x: usize, y: usize, level: *mut u8,
+        ) -> u32;
+
+        pub fn plombrisa_bilinear(
+            pic: *const u8, pic_len: usize, width: usize, height: usize, x: f64, y: f64, value: *mut f64,
+        ) -> u32;
+
+        pub fn plombrisa_valid_count(
+            cells: *const f32, cells_len: usize, width: usize, height: usize, count: *mut u64,
+        ) -> u32;
+
+        pub fn plombrisa_cover(
+            cells: *const f32, cells_len: usize, width: usize, height: usize, permille: *mut u64,
+        ) -> u32;
+
+        pub fn plombrisa_valid_range(
+            cells: *const f32, cells_len: usize, width: usize, height: usize,
+            some: *mut u32, least: *mut f32, greatest: *mut f32,
+        ) -> u32;
+
+        pub fn plombrisa_rectified_point(
+            fx: f64, fy: f64, cx: f64, cy: f64, baseline: f64, x: f64, y: f64, disparity: f64,
+            px: *mut f64, py: *mut f64, pz: *mut f64,
+        ) -> bool;
+
+        pub fn plombrisa_points(
+            cells: *const f32, cells_len: usize, width: usize, height: usize,
+            fx: f64, fy: f64, cx: f64, cy: f64, baseline: f64,
+            list: *mut PointRecord, list_len: usize, count: *mut u64,
         ) -> u32;
     }
 }
@@ -80,6 +122,12 @@ pub enum Refusal {
     PenaltyOutOfRange = 10,
     OutputLength = 11,
     RoomTooShort = 12,
+    CameraOutOfRange = 21,
+    BaselineOutOfRange = 22,
+    MapSize = 23,
+    ListTooShort = 24,
+    CoordinateNan = 25,
+    PixelOutside = 26,
 }
 
 impl Refusal {
@@ -93,6 +141,7 @@ impl Refusal {
         let all = [
             SizeOutOfRange, ByteCount, SizesDiffer, BlockEven, BlockTooLarge, CountNotPositive, CountTooLarge,
             PictureSmallerThanBlock, FirstOutOfRange, PenaltyOutOfRange, OutputLength, RoomTooShort,
+            CameraOutOfRange, BaselineOutOfRange, MapSize, ListTooShort, CoordinateNan, PixelOutside,
         ];
         all.into_iter().find(|refusal| refusal.number() == number)
     }

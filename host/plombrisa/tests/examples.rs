@@ -10,7 +10,7 @@ fn repository() -> PathBuf {
 /// What a command prints; it must succeed.
 fn printed(command: &mut Command) -> String {
     let output = command.output().expect("the command runs");
-    assert!(output.status.success(), "{}", String::from_utf8_lossy(&output.stderr));
+    assert!(output.status.success(), "{}: {}", output.status, String::from_utf8_lossy(&output.stderr));
     String::from_utf8(output.stdout).expect("text")
 }
 
@@ -23,20 +23,30 @@ fn the_readme_shows_both() {
     }
 }
 
-#[test]
-fn the_c_example_runs() {
+/// What a C program of host/plombrisa prints.
+fn printed_by(source: &str) -> String {
     let home = repository().join("host/plombrisa");
-    let program = Path::new(env!("CARGO_TARGET_TMPDIR")).join("match_c");
+    let program = Path::new(env!("CARGO_TARGET_TMPDIR")).join(source.replace(['/', '.'], "_"));
     printed(
         Command::new("cc")
             .args(["-std=c11", "-Wall", "-Wextra", "-Werror", "-I"])
             .arg(home.join("include"))
-            .arg(home.join("examples/match.c"))
+            .arg(home.join(source))
             .arg(repository().join("target/staticlib/libplombrisa.a"))
             .arg("-o")
             .arg(&program),
     );
-    assert_eq!(printed(&mut Command::new(program)), "disparity at (2, 1): 1\n");
+    printed(&mut Command::new(program))
+}
+
+#[test]
+fn the_c_example_runs() {
+    assert_eq!(printed_by("examples/match.c"), "disparity at (2, 1): 1\n");
+}
+
+#[test]
+fn the_header_declares_the_exports_as_they_are() {
+    assert_eq!(printed_by("tests/header.c"), "");
 }
 
 #[test]

@@ -1,0 +1,2 @@
+-- The theorems of the exports.
+pub mod Outcomes

@@ -1,0 +1,31 @@
+-- What a host is told is one outcome: two that a statement allows are equal. Assumes nothing.
+use Prim.Native.Nat.{ℕ}
+use mathlib.Core.Path.{_≡_, sym, _∙_}
+use mathlib.Core.Bool.{Bool}
+use mathlib.Core.List.{List}
+use lib.Ieee.{Float}
+use Rattle.maps.specs.declared.Extent.{Extent}
+use Rattle.points.specs.declared.Intrinsics.{Intrinsics}
+use Rattle.points.specs.declared.Point3.{Point3}
+use Rattle.points.specs.declared.PointRecord.{PointRecord}
+use Rattle.plombrisa.specs.Answers.{RangeTold, PointTold, PointsTold}
+
+-- THEOREM: of a pixel, a reading between pixels, a number of valid cells and a cover figure: the answer and the lent number
+pub one-number : {A : Type 0} {number : ℕ} {value : A} {n m : ℕ} {v u : A} → (n ≡ number) × (v ≡ value) → (m ≡ number) × (u ≡ value) → (n ≡ m) × (v ≡ u)
+one-number x y = (x .0 ∙ sym (y .0), x .1 ∙ sym (y .1))
+
+-- THEOREM: of the least and the greatest
+pub one-range : {e : Extent} {some : ℕ} {least greatest : Float} {n m some₁ some₂ : ℕ} {least₁ least₂ greatest₁ greatest₂ : Float}
+    → RangeTold n e some some₁ least least₁ greatest greatest₁ → RangeTold m e some some₂ least least₂ greatest greatest₂
+    → (n ≡ m) × (some₁ ≡ some₂) × (least₁ ≡ least₂) × (greatest₁ ≡ greatest₂)
+one-range x y = (x .answer ∙ sym (y .answer), x .somes ∙ sym (y .somes), x .leasts ∙ sym (y .leasts), x .greatests ∙ sym (y .greatests))
+
+-- THEOREM: of the point of a pixel and a disparity
+pub one-point : {p : Point3} {x y z : Float} {is is′ : Bool} {x₁ x₂ y₁ y₂ z₁ z₂ : Float}
+    → PointTold is p x x₁ y y₁ z z₁ → PointTold is′ p x x₂ y y₂ z z₂ → (is ≡ is′) × (x₁ ≡ x₂) × (y₁ ≡ y₂) × (z₁ ≡ z₂)
+one-point a b = (a .answer ∙ sym (b .answer), a .xs ∙ sym (b .xs), a .ys ∙ sym (b .ys), a .zs ∙ sym (b .zs))
+
+-- THEOREM: of a map's points
+pub one-list : {w h : ℕ} {cells : List Float} {k : Intrinsics} {list : List PointRecord} {count n m : ℕ} {list₁ list₂ : List PointRecord} {count₁ count₂ : ℕ}
+    → PointsTold n w h cells k list list₁ count count₁ → PointsTold m w h cells k list list₂ count count₂ → (n ≡ m) × (list₁ ≡ list₂) × (count₁ ≡ count₂)
+one-list x y = (x .answer ∙ sym (y .answer), x .lists ∙ sym (y .lists), x .counts ∙ sym (y .counts))

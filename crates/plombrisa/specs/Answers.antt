@@ -1,0 +1,113 @@
+-- An answer that is an enum, as a host gets it: the refusal's number, 0 for none, and what each lent number is afterwards. A refusal leaves it as it was. Definitions only.
+use Prim.Native.Nat.{ℕ}
+use mathlib.Core.Path.{_≡_}
+use mathlib.Core.Bool.{Bool, true, false}
+use mathlib.Core.List.{List}
+use lib.ListN.{length}
+use lib.Ieee.{Float}
+use Rattle.pictures.specs.declared.Level.{Level}
+use Rattle.pictures.specs.declared.Level.the-variants as level
+use Rattle.pictures.specs.declared.Sample.{Sample}
+use Rattle.pictures.specs.declared.Sample.the-variants as sample
+use Rattle.maps.specs.declared.Number.{Number}
+use Rattle.maps.specs.declared.Number.the-variants as number
+use Rattle.maps.specs.declared.Extent.{Extent}
+use Rattle.maps.specs.declared.Extent.the-variants as extent
+use Rattle.points.specs.declared.Point3.{Point3}
+use Rattle.points.specs.declared.Point3.the-variants as point
+use Rattle.points.specs.declared.Filled.{Filled}
+use Rattle.points.specs.declared.Filled.the-variants as filled
+use Rattle.points.specs.declared.Intrinsics.{Intrinsics}
+use Rattle.points.specs.declared.PointRecord.{PointRecord}
+use Rattle.points.specs.Records.{answerOf, listAfter}
+
+-- of a pixel: the level
+abbrev pub levelRefusal : Level → ℕ
+levelRefusal (level.At v) = 0
+levelRefusal (level.Refused n) = n
+
+abbrev pub levelAfter : Level → ℕ → ℕ
+levelAfter (level.At v) was = v
+levelAfter (level.Refused n) was = was
+
+-- of a reading between pixels: the value
+abbrev pub sampleRefusal : Sample → ℕ
+sampleRefusal (sample.At v) = 0
+sampleRefusal (sample.Refused n) = n
+
+abbrev pub sampleAfter : Sample → Float → Float
+sampleAfter (sample.At v) was = v
+sampleAfter (sample.Refused n) was = was
+
+-- of a map: the number of valid cells, or the cover figure
+abbrev pub numberRefusal : Number → ℕ
+numberRefusal (number.Is v) = 0
+numberRefusal (number.Refused n) = n
+
+abbrev pub numberAfter : Number → ℕ → ℕ
+numberAfter (number.Is v) was = v
+numberAfter (number.Refused n) was = was
+
+-- of a map: whether a cell is valid, 1 or 0, and the least and the greatest, which are as they were where none is
+abbrev pub extentRefusal : Extent → ℕ
+extentRefusal extent.None = 0
+extentRefusal (extent.Span low high) = 0
+extentRefusal (extent.Refused n) = n
+
+abbrev pub someAfter : Extent → ℕ → ℕ
+someAfter extent.None was = 0
+someAfter (extent.Span low high) was = 1
+someAfter (extent.Refused n) was = was
+
+abbrev pub leastAfter : Extent → Float → Float
+leastAfter extent.None was = was
+leastAfter (extent.Span low high) was = low
+leastAfter (extent.Refused n) was = was
+
+abbrev pub greatestAfter : Extent → Float → Float
+greatestAfter extent.None was = was
+greatestAfter (extent.Span low high) was = high
+greatestAfter (extent.Refused n) was = was
+
+pub record RangeTold (n : ℕ) (e : Extent) (some some′ : ℕ) (least least′ greatest greatest′ : Float) : Type 0 where
+  pub answer : n ≡ extentRefusal e
+  pub somes : some′ ≡ someAfter e some
+  pub leasts : least′ ≡ leastAfter e least
+  pub greatests : greatest′ ≡ greatestAfter e greatest
+
+-- of a pixel and a disparity: whether there is a point, and its three numbers
+abbrev pub isPoint : Point3 → Bool
+isPoint point.None = false
+isPoint (point.At x y z) = true
+
+abbrev pub xAfter : Point3 → Float → Float
+xAfter point.None was = was
+xAfter (point.At x y z) was = x
+
+abbrev pub yAfter : Point3 → Float → Float
+yAfter point.None was = was
+yAfter (point.At x y z) was = y
+
+abbrev pub zAfter : Point3 → Float → Float
+zAfter point.None was = was
+zAfter (point.At x y z) was = z
+
+pub record PointTold (is : Bool) (p : Point3) (x x′ y y′ z z′ : Float) : Type 0 where
+  pub answer : is ≡ isPoint p
+  pub xs : x′ ≡ xAfter p x
+  pub ys : y′ ≡ yAfter p y
+  pub zs : z′ ≡ zAfter p z
+
+-- of a map's points: how many records are written
+abbrev pub filledRefusal : Filled → ℕ
+filledRefusal (filled.Written v) = 0
+filledRefusal (filled.Refused n) = n
+
+abbrev pub filledAfter : Filled → ℕ → ℕ
+filledAfter (filled.Written v) was = v
+filledAfter (filled.Refused n) was = was
+
+pub record PointsTold (n w h : ℕ) (cells : List Float) (k : Intrinsics) (list list′ : List PointRecord) (count count′ : ℕ) : Type 0 where
+  pub answer : n ≡ filledRefusal (answerOf w h cells k (length list))
+  pub lists : list′ ≡ listAfter w h cells k list
+  pub counts : count′ ≡ filledAfter (answerOf w h cells k (length list)) count

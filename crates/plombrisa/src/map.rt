@@ -1,0 +1,75 @@
+// A map's figures, for hosts: 0, or the number of the refusal, which leaves what is lent as it was.
+ghost use mathlib.Core.Path.{_≡_};
+ghost use Rattle.maps.specs.Map.{validCount, validRange, coverOf};
+ghost use Rattle.plombrisa.specs.Answers.{numberRefusal, numberAfter, RangeTold};
+use maps::Extent;
+use maps::Number;
+use maps::count_valid;
+use maps::cover;
+use maps::range_valid;
+
+// What an answer says, with its number of cells or its cover in the lent number.
+fn tell(answer: Number, number: &mut u64) -> u32
+    ensures { λ n. ⌜ (n ≡ numberRefusal answer) × (now (number .exit) ≡ numberAfter answer (now (number .entry))) ⌝ }
+{
+    match answer {
+        Number::Refused(n) => n as u32,
+        Number::Is(v) => {
+            *number = v as u64;
+            0
+        }
+    }
+}
+
+// How many cells are valid.
+#[no_mangle]
+pub extern "C" fn plombrisa_valid_count(
+    cells: &[f32],
+    width: usize,
+    height: usize,
+    count: &mut u64,
+) -> u32
+    ensures { λ n. ⌜ (n ≡ numberRefusal (validCount width height (now (cells .entry)))) × (now (count .exit) ≡ numberAfter (validCount width height (now (cells .entry))) (now (count .entry))) ⌝ }
+{
+    tell(count_valid(width, height, cells), count)
+}
+
+// The cover figure: valid cells to a thousand, rounded down.
+#[no_mangle]
+pub extern "C" fn plombrisa_cover(
+    cells: &[f32],
+    width: usize,
+    height: usize,
+    permille: &mut u64,
+) -> u32
+    ensures { λ n. ⌜ (n ≡ numberRefusal (coverOf width height (now (cells .entry)))) × (now (permille .exit) ≡ numberAfter (coverOf width height (now (cells .entry))) (now (permille .entry))) ⌝ }
+{
+    tell(cover(width, height, cells), permille)
+}
+
+// The least and the greatest valid number. `some` is 1 where there are, and 0 where no cell is valid: then the two are as they were.
+#[no_mangle]
+pub extern "C" fn plombrisa_valid_range(
+    cells: &[f32],
+    width: usize,
+    height: usize,
+    some: &mut u32,
+    least: &mut f32,
+    greatest: &mut f32,
+) -> u32
+    ensures { λ n. ⌜ RangeTold n (validRange width height (now (cells .entry))) (now (some .entry)) (now (some .exit)) (now (least .entry)) (now (least .exit)) (now (greatest .entry)) (now (greatest .exit)) ⌝ }
+{
+    match range_valid(width, height, cells) {
+        Extent::Refused(n) => n as u32,
+        Extent::None => {
+            *some = 0;
+            0
+        }
+        Extent::Span(low, high) => {
+            *some = 1;
+            *least = low;
+            *greatest = high;
+            0
+        }
+    }
+}

@@ -1,0 +1,51 @@
+// One picture read at a pixel and between pixels, for hosts: 0, or the number of the refusal, which leaves what is lent as it was.
+ghost use mathlib.Core.Path.{_≡_};
+ghost use Rattle.pictures.specs.Picture.{pixelOf};
+ghost use Rattle.pictures.specs.Bilinear.{sampleOf};
+ghost use Rattle.plombrisa.specs.Answers.{levelRefusal, levelAfter, sampleRefusal, sampleAfter};
+use pictures::Level;
+use pictures::Sample;
+use pictures::bilinear;
+use pictures::pixel;
+
+// The level of the pixel (x, y).
+#[no_mangle]
+pub extern "C" fn plombrisa_pixel(
+    pic: &[u8],
+    width: usize,
+    height: usize,
+    x: usize,
+    y: usize,
+    level: &mut u8,
+) -> u32
+    ensures { λ n. ⌜ (n ≡ levelRefusal (pixelOf (now (pic .entry)) width height x y)) × (now (level .exit) ≡ levelAfter (pixelOf (now (pic .entry)) width height x y) (now (level .entry))) ⌝ }
+{
+    match pixel(pic, width, height, x, y) {
+        Level::Refused(n) => n as u32,
+        Level::At(v) => {
+            *level = v;
+            0
+        }
+    }
+}
+
+// The picture read at (x, y), clamped to its border.
+#[no_mangle]
+pub extern "C" fn plombrisa_bilinear(
+    pic: &[u8],
+    width: usize,
+    height: usize,
+    x: f64,
+    y: f64,
+    value: &mut f64,
+) -> u32
+    ensures { λ n. ⌜ (n ≡ sampleRefusal (sampleOf (now (pic .entry)) width height x y)) × (now (value .exit) ≡ sampleAfter (sampleOf (now (pic .entry)) width height x y) (now (value .entry))) ⌝ }
+{
+    match bilinear(pic, width, height, x, y) {
+        Sample::Refused(n) => n as u32,
+        Sample::At(v) => {
+            *value = v;
+            0
+        }
+    }
+}
