@@ -4,6 +4,7 @@ pub mod Signed
 pub mod Sides
 pub mod Columns
 pub mod Costs
+pub mod Leading
 pub mod Walking
 pub mod FloatOrder
 pub mod Largest

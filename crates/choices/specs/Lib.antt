@@ -2,6 +2,7 @@
 pub mod Frame
 pub mod Subpixel
 pub mod Block
+pub mod Leading
 pub mod SemiGlobal
 pub mod LeftRight
 pub mod Extremes

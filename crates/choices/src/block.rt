@@ -7,6 +7,7 @@ use super::subpixel::refine;
 use maps::Cell;
 use options::RawCost;
 ghost use mathlib.Core.Path.{_≡_};
+ghost use mathlib.Core.Bool.{_&&_};
 ghost use mathlib.Core.List.{map};
 ghost use Prim.Native.Nat.{_+_, _*_, _^_, _<_, _≤_};
 ghost use lib.ListN.{length, getD};
@@ -16,7 +17,8 @@ ghost use Rattle.options.specs.Costs.{stored, rawOf};
 ghost use Rattle.options.specs.Limits.{countMost, firstMost};
 ghost use Rattle.maps.specs.Cells.{inBuffer};
 ghost use Rattle.choices.specs.Subpixel.{placed};
-ghost use Rattle.choices.specs.Block.{costsOf, better, bestOf, away, rival, competitor, tooClose, blockChoice, blockCell, blockMap};
+ghost use Rattle.choices.specs.Leading.{leader, larger};
+ghost use Rattle.choices.specs.Block.{costsOf, bestOf, away, competitor, tooClose, blockChoice, blockCell, blockMap};
 
 // The best raw cost of a pixel with its index, if there is one.
 pub enum Best {
@@ -38,38 +40,45 @@ fn number_at(raw: &[f32], area: usize, p: usize, k: usize) -> f32
     raw[k * area + p]
 }
 
-// The raw cost that it is.
-fn cost_at(raw: &[f32], area: usize, p: usize, k: usize) -> RawCost
-    requires { ⌜ k * area + p < length (now raw) ⌝ }
-    ensures { λ r. ⌜ r ≡ rawOf (getD (now (raw .entry)) (k * area + p) nan) ⌝ }
-{
-    RawCost::of_cell(number_at(raw, area, p, k))
-}
-
-// The best so far, or the cost with index k where that is larger.
-fn better_of(b: Best, k: usize, c: RawCost) -> Best
-    ensures { λ r. ⌜ r ≡ better b k c ⌝ }
+// Whether a raw cost is larger than the best so far, or the first.
+fn is_larger(found: bool, most: f32, c: RawCost) -> bool
+    ensures { λ r. ⌜ r ≡ larger found most c ⌝ }
 {
     match c {
-        RawCost::Blank => b,
-        RawCost::Corr(v) => match b {
-            Best::Nothing => Best::Found(k, v),
-            Best::Found(_, most) => { if most < v { Best::Found(k, v) } else { b } }
-        },
+        RawCost::Blank => false,
+        RawCost::Corr(v) => { if found { most < v } else { true } }
     }
 }
 
-// The largest raw cost of pixel p, ties to the smaller index.
+// The best, from what a loop keeps of it.
+fn leader_of(found: bool, k: usize, most: f32) -> Best
+    ensures { λ r. ⌜ r ≡ leader found k most ⌝ }
+{
+    if found {
+        Best::Found(k, most)
+    } else {
+        Best::Nothing
+    }
+}
+
+// The largest raw cost of pixel p, ties to the smaller index. The loop keeps plain numbers, which stay in registers.
 fn best_of(raw: &[f32], area: usize, p: usize, count: usize) -> Best
     requires { ⌜ p < area ⌝ }
     requires { ⌜ count * area ≤ length (now raw) ⌝ }
     ensures { λ r. ⌜ r ≡ bestOf (costsOf (now (raw .entry)) area p count) ⌝ }
 {
-    let mut best = Best::Nothing;
+    let mut found = false;
+    let mut at = 0usize;
+    let mut most = 0.0f32;
     for k in 0..count {
-        best = better_of(best, k, cost_at(raw, area, p, k));
+        let v = number_at(raw, area, p, k);
+        if is_larger(found, most, RawCost::of_cell(v)) {
+            found = true;
+            at = k;
+            most = v;
+        }
     }
-    best
+    leader_of(found, at, most)
 }
 
 // Whether the indices j and k are more than 1 apart.
@@ -79,11 +88,15 @@ fn is_away(j: usize, k: usize) -> bool
     if j < k { 1 < k - j } else { 1 < j - k }
 }
 
-// The best so far, where the cost with index k counts only if it is more than 1 away from j.
-fn rival_of(j: usize, b: Best, k: usize, c: RawCost) -> Best
-    ensures { λ r. ⌜ r ≡ rival j b k c ⌝ }
+// Whether the number with index k counts as a competitor of index j, and is larger than the best so far.
+fn is_rival(j: usize, k: usize, found: bool, most: f32, v: f32) -> bool
+    ensures { λ r. ⌜ r ≡ (away j k && larger found most (rawOf v)) ⌝ }
 {
-    if is_away(j, k) { better_of(b, k, c) } else { b }
+    if is_away(j, k) {
+        is_larger(found, most, RawCost::of_cell(v))
+    } else {
+        false
+    }
 }
 
 // The largest raw cost of pixel p at indices more than 1 away from j.
@@ -92,11 +105,18 @@ fn competitor_of(raw: &[f32], area: usize, p: usize, count: usize, j: usize) -> 
     requires { ⌜ count * area ≤ length (now raw) ⌝ }
     ensures { λ r. ⌜ r ≡ competitor j (costsOf (now (raw .entry)) area p count) ⌝ }
 {
-    let mut best = Best::Nothing;
+    let mut found = false;
+    let mut at = 0usize;
+    let mut most = 0.0f32;
     for k in 0..count {
-        best = rival_of(j, best, k, cost_at(raw, area, p, k));
+        let v = number_at(raw, area, p, k);
+        if is_rival(j, k, found, most, v) {
+            found = true;
+            at = k;
+            most = v;
+        }
     }
-    best
+    leader_of(found, at, most)
 }
 
 // Whether there is a competitor, and best minus it is below the ratio.

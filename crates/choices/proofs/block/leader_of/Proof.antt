@@ -1,0 +1,13 @@
+-- `choices::block::leader_of` meets its contract. Assumes nothing.
+use borrow.Author.Needs.{needs}
+use Rattle.choices.proofs.block.leader_of.Statement.{statement}
+use Rattle.choices.proofs.block.leader_of.Tie as tie
+
+returns : tie.Need-returns
+returns c = rw (c .if1 .taken)
+
+returns-2 : tie.Need-returns-2
+returns-2 c = search needs
+
+pub leader-of-spec : {M : Type 1} → statement M
+leader-of-spec = tie.close (tie.spec returns returns-2)
