@@ -1,6 +1,6 @@
-//! From `rectification.rs` of calibration-rs (crates/vision-mvg/src/rectification.rs): `rectified_point`, and `rectify`'s tests
-//! of the intrinsics and the baseline, their text unchanged. The types that they name are not there, so plain ones stand for
-//! them. Its licence is in LICENSE.txt beside this crate.
+//! From `rectification.rs` of calibration-rs (crates/vision-mvg/src/rectification.rs): `rectified_point`, its text unchanged, and
+//! `rectify`'s tests of the intrinsics and the baseline as functions (there each guards an error). The types that they name are
+//! not there, so plain ones stand for them. Its licence is in LICENSE.txt beside this crate.
 
 type Real = f64;
 
