@@ -1,3 +1,4 @@
 -- The words that several crates use of lists.
 pub mod Lists
 pub mod Rows
+pub mod Turned

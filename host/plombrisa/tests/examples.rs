@@ -23,12 +23,29 @@ fn the_readme_shows_both() {
     }
 }
 
+/// The C compiler for the library's processor.
+fn c_compiler() -> Command {
+    Command::new(std::env::var("CC").unwrap_or_else(|_| String::from("cc")))
+}
+
+/// A compiled program, under the emulator where cargo runs programs under one.
+fn program_at(path: &Path) -> Command {
+    match std::env::var("CARGO_TARGET_X86_64_UNKNOWN_LINUX_GNU_RUNNER") {
+        Ok(emulator) => {
+            let mut command = Command::new(emulator);
+            command.arg(path);
+            command
+        }
+        Err(_) => Command::new(path),
+    }
+}
+
 /// What a C program of host/plombrisa prints.
 fn printed_by(source: &str) -> String {
     let home = repository().join("host/plombrisa");
     let program = Path::new(env!("CARGO_TARGET_TMPDIR")).join(source.replace(['/', '.'], "_"));
     printed(
-        Command::new("cc")
+        c_compiler()
             .args(["-std=c11", "-Wall", "-Wextra", "-Werror", "-I"])
             .arg(home.join("include"))
             .arg(home.join(source))
@@ -36,7 +53,7 @@ fn printed_by(source: &str) -> String {
             .arg("-o")
             .arg(&program),
     );
-    printed(&mut Command::new(program))
+    printed(&mut program_at(&program))
 }
 
 #[test]
