@@ -12,7 +12,7 @@ use mir.Val.{SFits, toZ, ofZ}
 use Rattle.options.specs.Limits.{countMost, firstMost}
 use mir.ValLaws.{toZ-ofZ, toZ-pos}
 
-sum-natAbs : (z : ℤ) (k b : ℕ) → natAbs z + k ≤ b → natAbs (z +ℤ pos k) ≤ b
+pub sum-natAbs : (z : ℤ) (k b : ℕ) → natAbs z + k ≤ b → natAbs (z +ℤ pos k) ≤ b
 sum-natAbs (pos a) k b h = h
 sum-natAbs (negsuc a) k b h = go (ltb k (suc a)) refl
   where
@@ -20,7 +20,7 @@ sum-natAbs (negsuc a) k b h = go (ltb k (suc a)) refl
     go true e = omega (arith, ltb-true k (suc a) e)
     go false e = omega (arith, ltb-false k (suc a) e)
 
-fits-of : (z : ℤ) → natAbs z ≤ 8192 → SFits w32 z
+pub fits-of : (z : ℤ) → natAbs z ≤ 8192 → SFits w32 z
 fits-of (pos a) h = record { sfits = omega arith }
 fits-of (negsuc a) h = record { sfits = omega arith }
 

@@ -2,7 +2,9 @@
 pub mod Frame
 pub mod Subpixel
 pub mod Block
+pub mod Seen
 pub mod Leading
+pub mod RowChoice
 pub mod SemiGlobal
 pub mod LeftRight
 pub mod Extremes

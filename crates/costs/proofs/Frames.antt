@@ -11,29 +11,13 @@ use Rattle.lists.proofs.Tests.{lt-or-le}
 use Rattle.options.specs.declared.RawCost.{RawCost}
 use Rattle.options.specs.declared.RawCost.the-variants.{Blank, Corr}
 use Rattle.windows.specs.Window.{Inside}
-use Rattle.costs.specs.declared.raw.Target.{Target}
-use Rattle.costs.specs.declared.raw.Target.the-variants.{Outside, At}
 use Rattle.costs.specs.Raw.{within, pairCost, targetCost, shiftedCost}
-use Rattle.costs.specs.Targets.{targetIn}
 
 -- a target column that is found
 pub record Found (w r : ℕ) (z : ℤ) (x : ℕ) : Type 0 where
   pub column : z ≡ pos x
   pub left : r ≤ x
   pub right : x + r < w
-
-pub found : (w r : ℕ) (z : ℤ) (x : ℕ) → At x ≡ targetIn w r z → Found w r z x
-unfolding targetIn
-found w r (negsuc n) x e = let n : _≡_ {A = ℕ} 0 1 = cc in absurd (omega arith)
-found w r (pos a) x e =
-    ⊎-elim
-    (λ (l : a < r). let o : At x ≡ Outside = e ∙ rw (lt-leb r a l) in let n : _≡_ {A = ℕ} 0 1 = cc in absurd (omega arith))
-    (λ (l : r ≤ a).
-    ⊎-elim
-    (λ (k : a + r < w). let same : At x ≡ At a = e ∙ rw (le-leb r a l, lt-ltb (a + r) w k) in let i : x ≡ a = cc in record { column = ap pos (sym i); left = rw i l; right = rw i k })
-    (λ (k : w ≤ a + r). let o : At x ≡ Outside = e ∙ rw (le-leb r a l, le-ltb (a + r) w k) in let n : _≡_ {A = ℕ} 0 1 = cc in absurd (omega arith))
-    (lt-or-le (a + r) w))
-    (lt-or-le a r)
 
 module _ (w h r : ℕ) (a b : List ℕ) (s : ℤ) (x y : ℕ) where
   pub frame-left : x < r → Blank ≡ shiftedCost w h r a b s x y
@@ -56,26 +40,46 @@ module _ (w h r : ℕ) (a b : List ℕ) (s : ℤ) (x y : ℕ) where
   unfolding shiftedCost
   in-frame i = rw (le-leb r x (i .left), lt-ltb (x + r) w (i .right), le-leb r y (i .top), lt-ltb (y + r) h (i .bottom))
 
-  outside : (z : ℤ) → Outside ≡ targetIn w r z → Blank ≡ targetCost w r a b s x y z
-  unfolding targetIn targetCost
-  outside (negsuc n) e = refl
-  outside (pos t) e =
-      ⊎-elim
-      (λ (l : t < r). rw (lt-leb r t l))
-      (λ (l : r ≤ t).
-      ⊎-elim
-      (λ (k : t + r < w). let o : Outside ≡ At t = e ∙ rw (le-leb r t l, lt-ltb (t + r) w k) in let n : _≡_ {A = ℕ} 0 1 = cc in absurd (omega arith))
-      (λ (k : w ≤ t + r). rw (le-leb r t l, le-ltb (t + r) w k))
-      (lt-or-le (t + r) w))
-      (lt-or-le t r)
-
-  pub target-outside : Inside w h x y r → Outside ≡ targetIn w r (pos x +ℤ s) → Blank ≡ shiftedCost w h r a b s x y
-  target-outside i e = outside (pos x +ℤ s) e ∙ sym (in-frame i)
-
   pub target-found : Inside w h x y r → (x′ : ℕ) → Found w r (pos x +ℤ s) x′ → pairCost w r a b s x x′ y ≡ shiftedCost w h r a b s x y
   unfolding targetCost
   target-found i x′ f =
       sym (in-frame i ∙ ap (targetCost w r a b s x y) (f .column) ∙ rw (le-leb r x′ (f .left), lt-ltb (x′ + r) w (f .right)))
+
+-- blank unless both windows lie in their pictures
+module _ (w h r : ℕ) (a b : List ℕ) (s : ℤ) (x y : ℕ) where
+  no-target : (z : ℤ) → ((x′ : ℕ) → Found w r z x′ → ⊥) → Blank ≡ targetCost w r a b s x y z
+  unfolding targetCost
+  no-target (negsuc n) off = refl
+  no-target (pos t) off =
+      ⊎-elim
+      (λ (l : t < r). rw (lt-leb r t l))
+      (λ (l : r ≤ t).
+      ⊎-elim
+      (λ (k : t + r < w). absurd (off t (record { column = refl; left = l; right = k })))
+      (λ (k : w ≤ t + r). rw (le-leb r t l, le-ltb (t + r) w k))
+      (lt-or-le (t + r) w))
+      (lt-or-le t r)
+
+  pub blank-unless : (Inside w h x y r → (x′ : ℕ) → Found w r (pos x +ℤ s) x′ → ⊥) → Blank ≡ shiftedCost w h r a b s x y
+  blank-unless off =
+      ⊎-elim
+      (λ (k : x < r). frame-left w h r a b s x y k)
+      (λ (k : r ≤ x).
+      ⊎-elim
+      (λ (m : x + r < w).
+      ⊎-elim
+      (λ (i : y < r). frame-top w h r a b s x y k m i)
+      (λ (i : r ≤ y).
+      ⊎-elim
+      (λ (j : y + r < h).
+      let inside : Inside w h x y r = record { left = k; right = m; top = i; bottom = j } in
+      no-target (pos x +ℤ s) (off inside) ∙ sym (in-frame w h r a b s x y inside))
+      (λ (j : h ≤ y + r). frame-bottom w h r a b s x y k m i j)
+      (lt-or-le (y + r) h))
+      (lt-or-le y r))
+      (λ (m : w ≤ x + r). frame-right w h r a b s x y k m)
+      (lt-or-le (x + r) w))
+      (lt-or-le x r)
 
 -- two raw costs at one place are equal where they are wherever both windows lie in their pictures
 module _ (w h r : ℕ) (a b a′ b′ : List ℕ) (s : ℤ) (x y : ℕ) where

@@ -1,7 +1,7 @@
 -- Lemmas that belong to no one function.
 pub mod RootBits
 pub mod OneLevel
-pub mod Targets
+pub mod Spans
 pub mod Readings
 pub mod PairCosts
 pub mod Frames
@@ -11,4 +11,6 @@ pub mod Signed
 pub mod Volumes
 pub mod Outcomes
 pub mod Laws
+pub mod Quotients
+pub mod Turned
 pub mod Scaling

@@ -2,7 +2,7 @@
 use Prim.Native.Nat.{ℕ, zero, suc, _+_, _*_, _-_, _/_, _%_, _^_, _≤_, _<_}
 use mathlib.Core.Path.{_≡_, refl, sym, ap, ap₂, _∙_}
 use mathlib.Core.List.{List, [], _++_, append-assoc}
-use native.Mathlib.Nat.{mul-le-mul, sub-add-cancel, le-of-lt, lt-of-le-of-lt}
+use native.Mathlib.Nat.{zero-add, mul-le-mul, sub-add-cancel, le-of-lt, lt-of-le-of-lt}
 use native.Mathlib.Omega.{arith}
 use borrow.Author.Tests.{lt-ltb}
 use lib.IntN.{ℤ, pos, _+ℤ_}
@@ -17,10 +17,11 @@ use Rattle.windows.specs.Moments.{varianceOf}
 use Rattle.windows.proofs.Tables.{length-table}
 use Rattle.windows.proofs.Windows.{cell-in}
 use Rattle.windows.proofs.Bounds.{Below53}
-use Rattle.windows.proofs.Flat.{pixel, count, window-flat, window-cross, windows-fit}
+use Rattle.windows.proofs.Flat.{pixel, count, window-flat, window-cross, windows-fit, count-most}
 use Rattle.lists.specs.Lists.{listOf}
 use Rattle.costs.specs.Raw.{pixels, windowVar}
-use Rattle.costs.specs.Roots.{rootBits, rootAt, rootCell, rootTable, pictureTables}
+use Rattle.costs.specs.Roots.{rootBits, windowAt, windowCell, windowTable, sumIn, rootIn, pictureTables}
+use Rattle.costs.specs.Quotient.{Counted}
 use Rattle.costs.specs.Rooms.{Frame, Picture, fiveParts, RoomOf}
 use Rattle.lists.proofs.Lists.{listOf-length, listOf-at}
 use Rattle.lists.proofs.Rows.{in-column, in-row}
@@ -36,19 +37,19 @@ cells-most w h lw lh =
     let h1 : h + 1 ≤ sideMost + 1 = omega arith in
     mul-le-mul w1 h1
 
-pub length-roots : (w h r : ℕ) (pic : List ℕ) → length (rootTable w h r pic) ≡ cells w h
-unfolding rootTable
-length-roots w h r pic = listOf-length (cells w h) (rootCell w h r pic)
+pub length-windows : (w h r : ℕ) (f : ℕ → ℕ → ℕ) → length (windowTable w h r f) ≡ cells w h
+unfolding windowTable
+length-windows w h r f = listOf-length (cells w h) (windowCell w h r f)
 
 -- a cell of a part that stands after others
 pub part-cell : (done part rest room : List ℕ) (off j : ℕ) → length done ≡ off → room ≡ done ++ part ++ rest → j < length part → getD room (off + j) 0 ≡ getD part j 0
 part-cell done part rest room off j long is l =
     rw (is, append-assoc done part rest, ← long) (getD-append-add done (part ++ rest) j 0 ∙ List·getD-append part rest 0 j l)
 
--- the root of the window whose corner is at an index
-pub root-at-corner : (w h r : ℕ) (pic : List ℕ) (x y : ℕ) → Inside w h x y r → rootCell w h r pic (cornerAt w x y r) ≡ rootBits (windowVar w pic x y r)
-unfolding rootAt
-root-at-corner w h r pic x y i =
+-- what a table has at the index of a window's corner
+pub window-at-corner : (w h r : ℕ) (f : ℕ → ℕ → ℕ) (x y : ℕ) → Inside w h x y r → windowCell w h r f (cornerAt w x y r) ≡ f x y
+unfolding windowAt
+window-at-corner w h r f x y i =
     let lc : x - r < w + 1 = omega (arith, i .right) in
     let column : x - r + r ≡ x = sub-add-cancel (i .left) in
     let row : y - r + r ≡ y = sub-add-cancel (i .top) in
@@ -56,11 +57,18 @@ root-at-corner w h r pic x y i =
 
 -- two windows of pictures: what a variance or a covariance needs is below 2^53
 module _ (w h : ℕ) (a b : List ℕ) (x x′ y r : ℕ) (few : r ≤ blockMost / 2) (pa : Picture w h a) (pb : Picture w h b) where
-  pub levels-fit : windowSum (levelAt w a) x y r * windowSum (levelAt w b) x′ y r < 2 ^ 53
-  levels-fit = rw (window-flat (levelAt w a) x y r, window-flat (levelAt w b) x′ y r) (windows-fit w a b x x′ y r few (pa .small) (pb .small) .levels)
-
-  pub products-fit : (s : ℤ) → pos x +ℤ s ≡ pos x′ → r ≤ x → r ≤ x′ → pixels r * windowSum (crossAt w a b s) x y r < 2 ^ 53
-  products-fit s e l l′ = rw (window-cross w a b x x′ y r s e l l′) (windows-fit w a b x x′ y r few (pa .small) (pb .small) .products)
+  pub counted : (s : ℤ) → pos x +ℤ s ≡ pos x′ → r ≤ x → r ≤ x′
+      → Counted (pixels r) (windowSum (levelAt w a) x y r) (windowSum (levelAt w b) x′ y r) (windowSum (crossAt w a b s) x y r)
+  counted s e l l′ =
+      let z = windows-fit w a b x x′ y r few (pa .small) (pb .small) in
+      record {
+        n-few = omega (arith, count-most r few);
+        sa-few = rw (window-flat (levelAt w a) x y r) (z .few-a);
+        sb-few = rw (window-flat (levelAt w b) x′ y r) (z .few-b);
+        sab-few = rw (window-cross w a b x x′ y r s e l l′) (z .few-products);
+        products = rw (window-cross w a b x x′ y r s e l l′) (z .products);
+        levels = rw (window-flat (levelAt w a) x y r, window-flat (levelAt w b) x′ y r) (z .levels);
+      }
 
 pub squares-fit : (w h : ℕ) (a : List ℕ) (x y r : ℕ) → r ≤ blockMost / 2 → Picture w h a → pixels r * windowSum (squareAt w a) x y r < 2 ^ 53
 squares-fit w h a x y r few pa = rw (window-flat (squareAt w a) x y r) (windows-fit w a a x x y r few (pa .small) (pa .small) .products)
@@ -71,62 +79,61 @@ var-most w h a x y r few pa = omega (arith, squares-fit w h a x y r few pa)
 
 -- the parts of a room
 module _ {room : List ℕ} {w h r : ℕ} {s : ℤ} {a b : List ℕ} (o : RoomOf room w h r s a b) where
-  A : List ℕ
-  A = tableOf w h (levelAt w a)
+  SA : List ℕ
+  SA = windowTable w h r (sumIn w r a)
 
-  B : List ℕ
-  B = tableOf w h (levelAt w b)
+  RA : List ℕ
+  RA = windowTable w h r (rootIn w r a)
+
+  SB : List ℕ
+  SB = windowTable w h r (sumIn w r b)
+
+  RB : List ℕ
+  RB = windowTable w h r (rootIn w r b)
 
   AB : List ℕ
   AB = tableOf w h (crossAt w a b s)
 
-  RA : List ℕ
-  RA = rootTable w h r a
-
-  RB : List ℕ
-  RB = rootTable w h r b
-
-  whole : room ≡ A ++ RA ++ B ++ RB ++ AB ++ o .rest
-  unfolding A B AB RA RB fiveParts pictureTables
+  whole : room ≡ SA ++ RA ++ SB ++ RB ++ AB ++ o .rest
+  unfolding SA SB AB RA RB fiveParts pictureTables
   whole = o .is ∙ simp append-assoc
 
-  lengths : (length A ≡ cells w h) × (length RA ≡ cells w h) × (length B ≡ cells w h) × (length RB ≡ cells w h) × (length AB ≡ cells w h)
-  unfolding A B AB RA RB
-  lengths = (length-table w h _, length-roots w h r a, length-table w h _, length-roots w h r b, length-table w h _)
+  lengths : (length SA ≡ cells w h) × (length RA ≡ cells w h) × (length SB ≡ cells w h) × (length RB ≡ cells w h) × (length AB ≡ cells w h)
+  unfolding SA SB AB RA RB
+  lengths = (length-windows w h r _, length-windows w h r _, length-windows w h r _, length-windows w h r _, length-table w h _)
 
   pub long : 5 * cells w h ≤ length room
   long = rw whole (simp length-append (omega (arith, lengths)))
 
-  from : (off i : ℕ) (f : ℕ → ℕ → ℕ) (done rest : List ℕ) → off + cells w h ≤ 5 * cells w h → length done ≡ off → room ≡ done ++ tableOf w h f ++ rest → TableFrom room off i w h f
-  from off i f done rest fits len is = record {
-    long = omega (arith, long);
-    same = λ j _ l. part-cell done (tableOf w h f) rest room off j len is (rw length-table l);
-  }
-
-  pub levels-here : (i : ℕ) → TableFrom room 0 i w h (levelAt w a)
-  unfolding A
-  levels-here i = from 0 i (levelAt w a) [] (RA ++ B ++ RB ++ AB ++ o .rest) (omega arith) refl (whole ∙ simp append-assoc)
-
-  pub levels-there : (i : ℕ) → TableFrom room (2 * cells w h) i w h (levelAt w b)
-  unfolding B
-  levels-there i = from (2 * cells w h) i (levelAt w b) (A ++ RA) (RB ++ AB ++ o .rest) (omega arith) (simp length-append (omega (arith, lengths))) (whole ∙ simp append-assoc)
-
   pub products : (i : ℕ) → TableFrom room (4 * cells w h) i w h (crossAt w a b s)
   unfolding AB
-  products i = from (4 * cells w h) i (crossAt w a b s) (A ++ RA ++ B ++ RB) (o .rest) (omega arith) (simp length-append (omega (arith, lengths))) whole
+  products i = record {
+    long = omega (arith, long);
+    same = λ j _ l. part-cell (SA ++ RA ++ SB ++ RB) AB (o .rest) room (4 * cells w h) j (simp length-append (omega (arith, lengths))) whole (rw length-table l);
+  }
+
+  -- the cell of a window in a table of windows
+  read : (off : ℕ) (f : ℕ → ℕ → ℕ) (done rest : List ℕ) → length done ≡ off → room ≡ done ++ windowTable w h r f ++ rest
+      → (x y : ℕ) → Inside w h x y r → getD room (off + cornerAt w x y r) 0 ≡ f x y
+  unfolding windowTable
+  read off f done rest len is x y i =
+      let l = corner-in w h x y r i in
+      part-cell done (windowTable w h r f) rest room off (cornerAt w x y r) len is (rw (length-windows w h r f) l)
+      ∙ listOf-at (cells w h) (windowCell w h r f) (cornerAt w x y r) 0 l
+      ∙ window-at-corner w h r f x y i
+
+  pub sum-here : (x y : ℕ) → Inside w h x y r → getD room (cornerAt w x y r) 0 ≡ windowSum (levelAt w a) x y r
+  unfolding SA
+  sum-here x y i = rw zero-add at (read 0 (sumIn w r a) [] (RA ++ SB ++ RB ++ AB ++ o .rest) refl (whole ∙ simp append-assoc) x y i)
 
   pub root-here : (x y : ℕ) → Inside w h x y r → getD room (cells w h + cornerAt w x y r) 0 ≡ rootBits (windowVar w a x y r)
-  unfolding RA rootTable
-  root-here x y i =
-      let l = corner-in w h x y r i in
-      part-cell A RA (B ++ RB ++ AB ++ o .rest) room (cells w h) (cornerAt w x y r) (lengths .0) (whole ∙ simp append-assoc) (rw (lengths .1) l)
-      ∙ listOf-at (cells w h) (rootCell w h r a) (cornerAt w x y r) 0 l
-      ∙ root-at-corner w h r a x y i
+  unfolding RA
+  root-here = read (cells w h) (rootIn w r a) SA (SB ++ RB ++ AB ++ o .rest) (lengths .0) (whole ∙ simp append-assoc)
+
+  pub sum-there : (x y : ℕ) → Inside w h x y r → getD room (2 * cells w h + cornerAt w x y r) 0 ≡ windowSum (levelAt w b) x y r
+  unfolding SB
+  sum-there = read (2 * cells w h) (sumIn w r b) (SA ++ RA) (RB ++ AB ++ o .rest) (simp length-append (omega (arith, lengths))) (whole ∙ simp append-assoc)
 
   pub root-there : (x y : ℕ) → Inside w h x y r → getD room (3 * cells w h + cornerAt w x y r) 0 ≡ rootBits (windowVar w b x y r)
-  unfolding RB rootTable
-  root-there x y i =
-      let l = corner-in w h x y r i in
-      part-cell (A ++ RA ++ B) RB (AB ++ o .rest) room (3 * cells w h) (cornerAt w x y r) (simp length-append (omega (arith, lengths))) (whole ∙ simp append-assoc) (rw (lengths .3) l)
-      ∙ listOf-at (cells w h) (rootCell w h r b) (cornerAt w x y r) 0 l
-      ∙ root-at-corner w h r b x y i
+  unfolding RB
+  root-there = read (3 * cells w h) (rootIn w r b) (SA ++ RA ++ SB) (AB ++ o .rest) (simp length-append (omega (arith, lengths))) (whole ∙ simp append-assoc)

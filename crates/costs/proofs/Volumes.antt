@@ -16,12 +16,12 @@ use Rattle.windows.proofs.Tables.{length-table}
 use Rattle.lists.proofs.Lists.{put-next, listOf-same, filled-end}
 use Rattle.lists.specs.Lists.{listOf, cleared}
 use Rattle.costs.specs.Raw.{shiftOf}
-use Rattle.costs.specs.Roots.{rootTable, pictureTables}
+use Rattle.costs.specs.Roots.{windowTable, sumIn, rootIn, pictureTables}
 use Rattle.windows.specs.Window.{cells}
 use Rattle.costs.specs.Rooms.{Frame, Picture, fiveParts, RoomOf}
 use Rattle.costs.specs.Volume.{planeCell, planeCells, planesCell, planesOf}
 use Rattle.lists.proofs.Rows.{in-column, in-row}
-use Rattle.costs.proofs.Readings.{length-roots}
+use Rattle.costs.proofs.Readings.{length-windows}
 use Rattle.costs.proofs.Planes.{next-part}
 
 -- plane k is part k of the volume
@@ -104,7 +104,7 @@ planes-done {w = w} {h = h} i long l = i .filled ∙ filled-end _ _ _ _ (ap (λ 
 
 pub length-picture : (w h r : ℕ) (pic : List ℕ) → length (pictureTables w h r pic) ≡ 2 * cells w h
 unfolding pictureTables
-length-picture w h r pic = length-append (tableOf w h (levelAt w pic)) (rootTable w h r pic) ∙ omega (arith, length-table w h (levelAt w pic), length-roots w h r pic)
+length-picture w h r pic = length-append (windowTable w h r (sumIn w r pic)) (windowTable w h r (rootIn w r pic)) ∙ omega (arith, length-windows w h r (sumIn w r pic), length-windows w h r (rootIn w r pic))
 
 -- both pictures' tables are put into the room
 module _ (w h r : ℕ) (a b room P Q : List ℕ) (p : P ≡ pictureTables w h r a) (q : Q ≡ pictureTables w h r b) where

@@ -4,4 +4,5 @@ pub mod Volume
 pub mod Outcome
 pub mod Roots
 pub mod Rooms
-pub mod Targets
+pub mod Quotient
+pub mod Span

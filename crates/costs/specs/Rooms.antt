@@ -9,7 +9,7 @@ use Rattle.options.specs.Limits.{sideMost, blockMost, countMost, firstMost}
 use Rattle.lists.specs.Rows.{levelAt}
 use Rattle.windows.specs.Table.{squareAt, crossAt, tableOf}
 use Rattle.windows.specs.Window.{Inside, cells, TableFrom}
-use Rattle.costs.specs.Roots.{rootTable, pictureTables}
+use Rattle.costs.specs.Roots.{pictureTables}
 
 -- the sizes of two pictures and of a window that fits in them
 pub record Frame (w h r : ℕ) : Type 0 where
@@ -24,13 +24,13 @@ pub record Picture (w h : ℕ) (pic : List ℕ) : Type 0 where
   pub bytes : length pic ≡ w * h
   pub small : (i : ℕ) → getD pic i 0 ≤ 255
 
--- the tables of a picture's levels and squares stand one after the other, the second from its cell i on
+-- the tables of a picture's levels and squares stand one after the other, each from its cell i on
 pub record Turning (pair : List ℕ) (w h i : ℕ) (pic : List ℕ) : Type 0 where
   pub picture : Picture w h pic
   pub levels : TableFrom pair 0 i w h (levelAt w pic)
   pub squares : TableFrom pair (cells w h) i w h (squareAt w pic)
 
--- those of some picture, while roots take the place of the squares
+-- those of some picture, while sums and roots take their place
 pub record Turned (pair : List ℕ) (w h r i : ℕ) : Type 0 where
   pub pic : List ℕ
   pub frame : Frame w h r
@@ -64,6 +64,20 @@ pub record Pair (room : List ℕ) (w h r x x′ y : ℕ) : Type 0 where
   pub first : Inside w h x y r
   pub second : Inside w h x′ y r
   pub apart : pos x +ℤ s ≡ pos x′
+
+-- the same of n columns from x and from x′ on
+pub record Lined (room : List ℕ) (w h r x x′ y n : ℕ) : Type 0 where
+  pub s : ℤ
+  pub a : List ℕ
+  pub b : List ℕ
+  pub held : RoomOf room w h r s a b
+  pub apart : pos x +ℤ s ≡ pos x′
+  pub left : r ≤ x
+  pub left′ : r ≤ x′
+  pub right : x + n + r ≤ w
+  pub right′ : x′ + n + r ≤ w
+  pub top : r ≤ y
+  pub bottom : y + r < h
 
 -- the room for the two tables of a picture
 pub record PictureRoom (pair pic : List ℕ) (w h r : ℕ) : Type 0 where

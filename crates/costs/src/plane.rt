@@ -1,24 +1,112 @@
 // One plane of the raw volume: the raw costs of all pixels with one index.
 ghost use mathlib.Core.Path.{_≡_};
+ghost use mathlib.Core.Bool.{true};
 ghost use mathlib.Core.List.{List};
-ghost use Prim.Native.Nat.{ℕ, _*_, _≤_, _<_};
-ghost use lib.IntN.{natAbs};
+ghost use Prim.Native.Nat.{ℕ, _+_, _-_, _*_, _/_, _≤_, _<_};
+ghost use lib.IntN.{ℤ, pos, natAbs, _+ℤ_};
+ghost use lib.Ieee.{inf};
 ghost use lib.ListN.{length};
-ghost use Rattle.options.specs.Limits.{shiftMost};
+ghost use Rattle.lists.specs.Lists.{listOf};
+ghost use Rattle.options.specs.Limits.{sideMost, blockMost, shiftMost};
+ghost use Rattle.options.specs.Costs.{stored};
+ghost use Rattle.costs.specs.Raw.{pairCost};
+ghost use Rattle.costs.specs.Span.{spanOf};
 ghost use Rattle.costs.specs.Volume.{rowCells, planeCells};
-ghost use Rattle.costs.specs.Rooms.{RoomOf, Ready};
-use crate::raw::raw_cost;
+ghost use Rattle.costs.specs.Rooms.{RoomOf, Ready, Lined};
+use crate::raw::pair_cost;
+
+// The columns of a row where both windows lie within it, and where the target's begin.
+pub struct Span {
+    pub first: usize,
+    pub other: usize,
+    pub count: usize,
+}
+
+// How far apart the two columns are.
+fn distance(shift: i64) -> usize
+    requires { ⌜ natAbs shift ≤ shiftMost ⌝ }
+    ensures { λ d. ⌜ d ≡ natAbs shift ⌝ }
+{
+    if shift < 0 {
+        (0 - shift) as usize
+    } else {
+        shift as usize
+    }
+}
+
+// What is left of w cells.
+fn left_of(w: usize, taken: usize) -> usize
+    ensures { λ n. ⌜ n ≡ w - taken ⌝ }
+{
+    if taken < w { w - taken } else { 0 }
+}
+
+fn span_of(w: usize, r: usize, shift: i64) -> Span
+    requires { ⌜ (w ≤ sideMost) × (r ≤ blockMost / 2) × (natAbs shift ≤ shiftMost) ⌝ }
+    ensures { λ s. ⌜ s ≡ spanOf w r shift ⌝ }
+{
+    let apart = distance(shift);
+    let count = left_of(w, 2 * r + apart);
+    if shift < 0 {
+        return Span {
+            first: r + apart,
+            other: r,
+            count,
+        };
+    }
+    Span {
+        first: r,
+        other: r + apart,
+        count,
+    }
+}
+
+// Every cell of a row blank.
+fn blank_row(row: &mut [f32])
+    ensures { λ _. ⌜ now (row .exit) ≡ listOf (length (now (row .entry))) (λ _. inf true) ⌝ }
+{
+    for x in 0..row.len() {
+        row[x] = -1.0 / 0.0;
+    }
+}
+
+// The cells from column x on, whose targets begin in column `other`.
+fn raw_span(
+    part: &mut [f32],
+    room: &[u64],
+    w: usize,
+    h: usize,
+    r: usize,
+    y: usize,
+    x: usize,
+    other: usize,
+)
+    requires { ⌜ Lined (now room) w h r x other y (length (now part)) ⌝ }
+    ensures { λ _. ⌜ ((s : ℤ) (a b : List ℕ) → RoomOf (now (room .entry)) w h r s a b → now (part .exit) ≡ listOf (length (now (part .entry))) (λ i. stored (pairCost w r a b s (x + i) (other + i) y))) ⌝ }
+{
+    for i in 0..part.len() {
+        part[i] = pair_cost(room, w, h, r, x + i, other + i, y);
+    }
+}
 
 // Row y of the plane.
 pub fn raw_row(row: &mut [f32], room: &[u64], w: usize, h: usize, r: usize, y: usize, shift: i64)
     requires { ⌜ Ready (now room) w h r shift × (natAbs shift ≤ shiftMost) × (y < h) × (length (now row) ≡ w) ⌝ }
     ensures { λ _. ⌜ ((a b : List ℕ) → RoomOf (now (room .entry)) w h r shift a b → now (row .exit) ≡ rowCells w h r a b shift y) ⌝ }
 {
-    let mut x = 0;
-    while x < w {
-        let cost = raw_cost(room, w, h, r, x, y, shift);
-        row[x] = cost.stored();
-        x += 1;
+    blank_row(row);
+    if y < r {
+        return;
+    }
+    if h <= y + r {
+        return;
+    }
+    let span = span_of(w, r, shift);
+    let first = span.first;
+    let other = span.other;
+    let end = first + span.count;
+    if first < end {
+        raw_span(&mut row[first..end], room, w, h, r, y, first, other);
     }
 }
 

@@ -1,54 +1,68 @@
-// The raw cost of one pixel and index, from the tables of the room.
+// The raw cost of two windows, from the tables of the room. No step of it branches, so that a row of them can be worked out
+// several cells at a time.
 ghost use mathlib.Core.Path.{_≡_};
+ghost use mathlib.Core.Bool.{true, cond};
 ghost use mathlib.Core.List.{List};
-ghost use Prim.Native.Nat.{ℕ, _+_, _/_, _≤_, _<_};
-ghost use lib.Dec.{T};
-ghost use lib.IntN.{ℤ, pos, natAbs, _+ℤ_};
-ghost use lib.Ieee.{binary64, div, mul, ofInt, inFloat};
-ghost use Rattle.numbers.specs.Narrow.{narrowed};
-ghost use Rattle.options.specs.Limits.{sideMost, blockMost, shiftMost};
-ghost use Rattle.costs.specs.Raw.{pairCost, shiftedCost};
-ghost use Rattle.costs.specs.Targets.{targetIn};
-ghost use Rattle.costs.specs.Rooms.{RoomOf, Ready, Pair};
-use numbers::narrow::narrow;
-use options::BlockMatchOptions;
-use options::RawCost;
-use windows::covariance;
+ghost use Prim.Native.Nat.{ℕ, _^_, _<_};
+ghost use lib.IntN.{ℤ, pos};
+ghost use lib.Ieee.{binary64, inf, ofInt};
+ghost use Rattle.options.specs.Costs.{stored};
+ghost use Rattle.costs.specs.Raw.{pairCost};
+ghost use Rattle.windows.specs.Moments.{covarianceOf};
+ghost use Rattle.costs.specs.Quotient.{Counted, isFlat, one, quotientCell, Divisible};
+ghost use Rattle.costs.specs.Rooms.{RoomOf, Pair};
+use numbers::narrow::narrow_plain;
 use windows::window_sum;
 
-// The column of the target, where its window lies within the row.
-pub enum Target {
-    Outside,
-    At(usize),
-}
-
-pub fn target_column(w: usize, r: usize, x: usize, shift: i64) -> Target
-    requires { ⌜ (x ≤ sideMost) × (r ≤ blockMost / 2) × (natAbs shift ≤ shiftMost) ⌝ }
-    ensures { λ t. ⌜ t ≡ targetIn w r (pos x +ℤ shift) ⌝ }
+// A whole number as an f64.
+fn counted(n: u64) -> f64
+    requires { ⌜ n < 2 ^ 32 ⌝ }
+    ensures { λ v. ⌜ v ≡ ofInt binary64 (pos n) ⌝ }
 {
-    let at = x as i64 + shift;
-    if at < 0 {
-        return Target::Outside;
-    }
-    let column = at as usize;
-    if column < r {
-        return Target::Outside;
-    }
-    if w <= column + r {
-        return Target::Outside;
-    }
-    Target::At(column)
+    (n as u32) as f64
 }
 
-// cov / (a · b) in f64, each step rounded once, narrowed to f32.
-pub fn quotient(cov: i64, a: f64, b: f64) -> f32
-    requires { ⌜ T (inFloat binary64 cov) ⌝ }
-    ensures { λ v. ⌜ v ≡ narrowed (div binary64 (ofInt binary64 cov) (mul binary64 a b)) ⌝ }
+// n·Sab - Sa·Sb, of the sums and the sum of products of two windows of n levels: f64 counts each step.
+fn covariance(n: u64, sum_a: u64, sum_b: u64, products: u64) -> f64
+    requires { ⌜ Counted n «sum_a» «sum_b» products ⌝ }
+    ensures { λ v. ⌜ v ≡ ofInt binary64 (covarianceOf n «sum_a» «sum_b» products) ⌝ }
 {
-    narrow(cov as f64 / (a * b))
+    counted(n) * counted(products) - counted(sum_a) * counted(sum_b)
 }
 
-// The raw cost of the window at (x, y) of the reference and the one at (other, y) of the target.
+// Whether one of two roots is 0, by their bits.
+fn is_flat(a: u64, b: u64) -> bool
+    ensures { λ t. ⌜ t ≡ isFlat a b ⌝ }
+{
+    if a == 0 { true } else { b == 0 }
+}
+
+// What the covariance is divided by: 1 where the quotient is not wanted.
+fn divisor(flat: bool, product: f64) -> f64
+    ensures { λ v. ⌜ v ≡ cond flat one product ⌝ }
+{
+    if flat { 1.0 } else { product }
+}
+
+// The cell of a raw cost: blank where a window shows one level.
+fn cell_of(flat: bool, cost: f32) -> f32
+    ensures { λ v. ⌜ v ≡ cond flat (inf true) cost ⌝ }
+{
+    if flat { -1.0 / 0.0 } else { cost }
+}
+
+// The covariance over the product of two roots, which are given by their bits.
+pub fn quotient(cov: f64, a: u64, b: u64) -> f32
+    requires { ⌜ Divisible cov a b ⌝ }
+    ensures { λ v. ⌜ v ≡ quotientCell cov a b ⌝ }
+{
+    let flat = is_flat(a, b);
+    let product = f64::from_bits(a) * f64::from_bits(b);
+    let cost = narrow_plain(cov / divisor(flat, product));
+    cell_of(flat, cost)
+}
+
+// The cell of the raw cost of the window at (x, y) of the reference and the one at (other, y) of the target.
 pub fn pair_cost(
     room: &[u64],
     w: usize,
@@ -57,59 +71,22 @@ pub fn pair_cost(
     x: usize,
     other: usize,
     y: usize,
-) -> RawCost
+) -> f32
     requires { ⌜ Pair (now room) w h r x other y ⌝ }
-    ensures { λ v. ⌜ ((s : ℤ) (a b : List ℕ) → RoomOf (now (room .entry)) w h r s a b → v ≡ pairCost w r a b s x other y) ⌝ }
+    ensures { λ v. ⌜ ((s : ℤ) (a b : List ℕ) → RoomOf (now (room .entry)) w h r s a b → v ≡ stored (pairCost w r a b s x other y)) ⌝ }
 {
     let side = w + 1;
     let cells = side * (h + 1);
     let top = (y - r) * side;
     let here = top + (x - r);
     let there = top + (other - r);
-    let root_here = room[cells + here];
-    if root_here == 0 {
-        return BlockMatchOptions::BLANK;
-    }
-    let root_there = room[3 * cells + there];
-    if root_there == 0 {
-        return BlockMatchOptions::BLANK;
-    }
     let n = 2 * r + 1;
-    let sum = window_sum(room, side, here, n);
-    let sum_there = window_sum(room, side, 2 * cells + there, n);
     let products = window_sum(room, side, 4 * cells + here, n);
-    let cov = covariance((n * n) as u64, sum, sum_there, products);
-    RawCost::Corr(quotient(cov, f64::from_bits(root_here), f64::from_bits(root_there)))
-}
-
-// The raw cost at (x, y), with the target `shift` columns further right.
-pub fn raw_cost(
-    room: &[u64],
-    w: usize,
-    h: usize,
-    r: usize,
-    x: usize,
-    y: usize,
-    shift: i64,
-) -> RawCost
-    requires { ⌜ Ready (now room) w h r shift × (natAbs shift ≤ shiftMost) × (x ≤ sideMost) × (y ≤ sideMost) ⌝ }
-    ensures { λ v. ⌜ ((a b : List ℕ) → RoomOf (now (room .entry)) w h r shift a b → v ≡ shiftedCost w h r a b shift x y) ⌝ }
-{
-    if x < r {
-        return BlockMatchOptions::BLANK;
-    }
-    if w <= x + r {
-        return BlockMatchOptions::BLANK;
-    }
-    if y < r {
-        return BlockMatchOptions::BLANK;
-    }
-    if h <= y + r {
-        return BlockMatchOptions::BLANK;
-    }
-    let target = target_column(w, r, x, shift);
-    let Target::At(other) = target else {
-        return BlockMatchOptions::BLANK;
-    };
-    pair_cost(room, w, h, r, x, other, y)
+    let cov = covariance(
+        (n * n) as u64,
+        room[here],
+        room[2 * cells + there],
+        products,
+    );
+    quotient(cov as f64, room[cells + here], room[3 * cells + there])
 }

@@ -1,8 +1,8 @@
-// The tables of a picture: its levels, and one root for each of its windows.
+// The tables of a picture: a sum and a root for each of its windows.
 ghost use mathlib.Core.Path.{_≡_};
 ghost use mathlib.Core.List.{List};
 ghost use Prim.Native.Nat.{ℕ, _^_, _≤_};
-ghost use Rattle.costs.specs.Roots.{rootBits, rootCell, pictureTables};
+ghost use Rattle.costs.specs.Roots.{rootBits, windowCell, sumIn, rootIn, pictureTables};
 ghost use Rattle.costs.specs.Rooms.{Turning, Turned, PictureRoom};
 use numbers::root::root;
 use windows::fill_levels;
@@ -22,10 +22,27 @@ pub fn root_bits(variance: u64) -> u64
     }
 }
 
+// The sum of the levels of the window whose top left corner is cell i, 0 where none fits.
+pub fn sum_at(pair: &[u64], w: usize, h: usize, r: usize, i: usize) -> u64
+    requires { ⌜ Turned (now pair) w h r i ⌝ }
+    ensures { λ v. ⌜ ((pic : List ℕ) → Turning (now (pair .entry)) w h i pic → v ≡ windowCell w h r (sumIn w r pic) i) ⌝ }
+{
+    let side = w + 1;
+    let column = i % side;
+    let row = i / side;
+    if w <= column + 2 * r {
+        return 0;
+    }
+    if h <= row + 2 * r {
+        return 0;
+    }
+    window_sum(pair, side, i, 2 * r + 1)
+}
+
 // The bits of the root of the variance of the window whose top left corner is cell i, 0 where none fits.
 pub fn root_at(pair: &[u64], w: usize, h: usize, r: usize, i: usize) -> u64
     requires { ⌜ Turned (now pair) w h r i ⌝ }
-    ensures { λ v. ⌜ ((pic : List ℕ) → Turning (now (pair .entry)) w h i pic → v ≡ rootCell w h r pic i) ⌝ }
+    ensures { λ v. ⌜ ((pic : List ℕ) → Turning (now (pair .entry)) w h i pic → v ≡ windowCell w h r (rootIn w r pic) i) ⌝ }
 {
     let side = w + 1;
     let column = i % side;
@@ -42,8 +59,8 @@ pub fn root_at(pair: &[u64], w: usize, h: usize, r: usize, i: usize) -> u64
     root_bits(variance((n * n) as u64, sum, squares))
 }
 
-// The two tables of a picture: levels, and the roots, which take the place of the squares cell by cell.
-// No later window reads the cell that is written: it is the top left corner, the first of the four.
+// The two tables of a picture: sums and roots, which take the place of levels and squares cell by cell.
+// No later window reads a cell that is written: it is the top left corner, the first of the four.
 pub fn fill_picture(pair: &mut [u64], pic: &[u8], w: usize, h: usize, r: usize)
     requires { ⌜ PictureRoom (now pair) (now pic) w h r ⌝ }
     ensures { λ _. ⌜ now (pair .exit) ≡ pictureTables w h r (now (pic .entry)) ⌝ }
@@ -54,7 +71,9 @@ pub fn fill_picture(pair: &mut [u64], pic: &[u8], w: usize, h: usize, r: usize)
     fill_squares(&mut pair[cells..end], pic, w, h);
     let mut i = 0;
     while i < cells {
+        let sum = sum_at(pair, w, h, r, i);
         let bits = root_at(pair, w, h, r, i);
+        pair[i] = sum;
         pair[cells + i] = bits;
         i += 1;
     }

@@ -1,6 +1,7 @@
 -- What an accepted match offers to the functions that make its map. Assumes nothing.
 use Prim.Native.Nat.{ℕ, _*_, _≤_}
 use mathlib.Core.Path.{_≡_}
+use mathlib.Core.Bool.{Bool, true, false, cond}
 use mathlib.Core.List.{List}
 use native.Mathlib.Nat.{mul-le-mul}
 use native.Mathlib.Omega.{arith}
@@ -8,7 +9,7 @@ use lib.IntN.{natAbs}
 use Rattle.options.specs.Limits.{sideMost, countMost, firstMost}
 use Rattle.options.specs.declared.BlockMatchOptions.{BlockMatchOptions}
 use Rattle.matching.specs.Maps.{half, countOf}
-use Rattle.matching.specs.Fit.{Fit, Counted, cellsIn}
+use Rattle.matching.specs.Fit.{Fit, Counted, cellsIn, sideCells}
 
 pub record Ready (w h : ℕ) (o : BlockMatchOptions) (outLength : ℕ) : Type 0 where
   pub out : outLength ≡ w * h
@@ -46,3 +47,11 @@ semi-sizes z =
 pub refit : {left right : List ℕ} {w h : ℕ} {o : BlockMatchOptions} {outLength outLength′ wholeLength wholeLength′ : ℕ} → Fit left right w h o outLength wholeLength
     → outLength′ ≡ outLength → wholeLength′ ≡ wholeLength → Fit left right w h o outLength′ wholeLength′
 refit z e f = rw (e, f) z
+
+-- a side's cells begin with one volume
+pub volume-first : (w h : ℕ) (o : BlockMatchOptions) → cellsIn w h o ≤ sideCells w h o
+volume-first w h o = go (o .«semi_global»)
+  where
+    go : (t : Bool) → cellsIn w h o ≤ cond t (3 * cellsIn w h o) (cellsIn w h o)
+    go true = omega arith
+    go false = omega arith

@@ -2,6 +2,9 @@
 pub mod Fitting
 pub mod SumPaths
 pub mod ThirdVolume
+pub mod Ranged
+pub mod Blocks
+pub mod Turns
 pub mod Tail
 pub mod Outcomes
 pub mod Ranges

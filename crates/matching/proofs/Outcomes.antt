@@ -4,10 +4,12 @@ use mathlib.Core.Path.{_≡_, refl, sym, ap, _∙_}
 use mathlib.Core.Bool.{Bool, true, false, cond}
 use mathlib.Core.List.{List, _++_}
 use native.Mathlib.Nat.{sub-zero}
+use borrow.Author.Tests.{not-false}
 use lib.IntN.{pos}
 use lib.Ieee.{Float, fin}
 use lib.ListN.{length, drop, replicate}
 use Rattle.lists.specs.Lists.{cleared}
+use Rattle.lists.proofs.Tests.{and-both}
 use Rattle.options.specs.declared.BlockMatchOptions.{BlockMatchOptions}
 use Rattle.refusals.specs.declared.Call.{Call}
 use Rattle.refusals.specs.declared.Output.the-variants.{Map}
@@ -28,6 +30,7 @@ module _ (left : List ℕ) (w h : ℕ) (right : List ℕ) (w′ h′ : ℕ) (o :
     volume = record { sizes = sized q (a .sizes) left right (cellsIn w h o) wholeLength refl refl refl (a .whole-cells); whole = a .sizes .whole };
     some = a .sizes .some;
     out-cells = a .out-cells;
+    penalties = λ semi. and-both _ _ (not-false _ (rw semi at (a .penalties)));
   }
 
   pub needed : floatCells q Map ≡ sideCells w h o + w * h

@@ -18,7 +18,7 @@ use Rattle.choices.specs.SemiGlobal.{semiMap}
 use Rattle.paths.specs.Cost.{matchingCosts}
 use Rattle.paths.specs.Room.{run}
 use Rattle.paths.specs.Walk.{pathSums}
-use Rattle.matching.specs.Maps.{half, searchOf, volumeOf, sumsFrom}
+use Rattle.matching.specs.Maps.{half, countOf, searchOf, volumeOf, sumsFrom}
 use Rattle.matching.specs.Fit.{cellsIn}
 
 pub volume-length : (w h : ℕ) (o : BlockMatchOptions) (side : Side) (left right : List ℕ) → length (volumeOf w h o side left right) ≡ cellsIn w h o
@@ -69,3 +69,26 @@ semi-done w h o side left right s room room₂ vol out is three made summed chos
     ∙ ap (λ l. pathSums w h (s .count) (o .«sgm_p1») (o .«sgm_p2») (matchingCosts (w * h) (s .count) l))
     (third-in M room (three ∙ ap (λ k. 3 * k) (sym same)) vol long ∙ made))
     ∙ ap (λ (k : Search). map inBuffer (semiMap w h (half o) k (pathSums w h (k .count) (o .«sgm_p1») (o .«sgm_p2») (matchingCosts (w * h) (k .count) (volumeOf w h o side left right))))) is
+
+-- the first volume keeps the matching costs
+pub costs-done : (w h : ℕ) (o : BlockMatchOptions) (side : Side) (left right : List ℕ) (s : Search) (room room₂ vol : List Float)
+    → s ≡ searchOf o → length room ≡ 3 * cellsIn w h o → vol ≡ volumeOf w h o side left right
+    → run (s .count * (w * h)) 0 room₂
+    ≡ matchingCosts (w * h) (s .count) (run (s .count * (w * h)) (2 * (s .count * (w * h))) (putMid (2 * (s .count * (w * h))) (3 * (s .count * (w * h)) - 2 * (s .count * (w * h))) room vol))
+    → take (cellsIn w h o) room₂ ≡ matchingCosts (w * h) (countOf o) (volumeOf w h o side left right)
+costs-done w h o side left right s room room₂ vol is three made kept =
+    let M = s .count * (w * h) in
+    let same : M ≡ cellsIn w h o = ap (λ (k : Search). k .count * (w * h)) is in
+    let long : length vol ≡ M = ap length made ∙ volume-length w h o side left right ∙ sym same in
+    ap (λ n. take n room₂) (sym same)
+    ∙ kept
+    ∙ ap (matchingCosts (w * h) (s .count)) (third-in M room (three ∙ ap (λ k. 3 * k) (sym same)) vol long ∙ made)
+    ∙ ap (λ (k : Search). matchingCosts (w * h) (k .count) (volumeOf w h o side left right)) is
+
+-- the first volume, as it is lent
+pub first-length : (w h count : ℕ) (room : List Float) → length room ≡ 3 * (count * (w * h))
+    → w * h * count ≤ length (take (count * (w * h) - 0) room)
+first-length w h count room three =
+    let M = count * (w * h) in
+    let e : M - 0 ≡ M = omega arith in
+    rw (e, length-take-le M room (omega arith)) (omega (arith, mul-comm (w * h) count))

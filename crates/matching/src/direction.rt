@@ -1,41 +1,34 @@
-// The map made from one side, for a match that is accepted.
+// The map made from one side, and the one made from what stays of the other's, for a match that is accepted.
 ghost use mathlib.Core.Path.{_≡_};
-ghost use Prim.Native.Nat.{_*_};
-ghost use mathlib.Core.List.{map};
-ghost use lib.ListN.{length};
+ghost use mathlib.Core.Bool.{true};
+ghost use mathlib.Core.List.{List, map};
+ghost use Prim.Native.Nat.{ℕ, _*_};
+ghost use lib.ListN.{length, take};
 ghost use Rattle.lists.specs.Lists.{cleared};
+ghost use Rattle.options.specs.declared.Side.the-variants.{Left};
 ghost use Rattle.windows.specs.Window.{cells};
 ghost use Rattle.maps.specs.Cells.{inBuffer};
 ghost use Rattle.choices.specs.Block.{blockMap};
 ghost use Rattle.choices.specs.SemiGlobal.{semiMap};
-ghost use Rattle.matching.specs.Maps.{half, searchOf, gatesOf, volumeOf, sumsFrom, sideMap};
-ghost use Rattle.matching.specs.Fit.{Fit, Counted, ThreeVolumes, cellsIn, sideCells};
-ghost use Rattle.paths.specs.Cost.{matchingCosts};
+ghost use Rattle.paths.specs.Bounds.{Bounded};
+ghost use Rattle.paths.specs.Cost.{matchingCosts, turnedCosts, Turnable};
 ghost use Rattle.paths.specs.Room.{run};
 ghost use Rattle.paths.specs.Walk.{pathSums};
-use choices::block::Gates;
-use choices::block::select_block;
+ghost use Rattle.matching.specs.Maps.{half, countOf, searchOf, gatesOf, volumeOf, sumsFrom, sideMap};
+ghost use Rattle.matching.specs.Fit.{Fit, ThreeVolumes, cellsIn, sideCells, keptOf, Kept, Turning};
+use crate::block::choose_block;
+use crate::block::search_of;
+use choices::block::Seen;
 use choices::semi_global::select_sgm;
-use choices::subpixel::Search;
 use costs::volume::volume_of;
 use options::BlockMatchOptions;
 use options::Side;
+use paths::cost::Turn;
 use paths::cost::fill_costs;
+use paths::cost::turn_costs;
 use paths::sums::aggregate_sgm;
 
-// What is searched.
-fn search_of(opts: BlockMatchOptions) -> Search
-    requires { ⌜ Counted opts ⌝ }
-    ensures { λ s. ⌜ s ≡ searchOf opts ⌝ }
-{
-    Search {
-        first: opts.min_disparity,
-        count: opts.num_disparities as usize,
-        subpixel: opts.subpixel,
-    }
-}
-
-// By the raw costs: the room holds the raw volume.
+// By the raw costs: the room holds the raw volume, and keeps it.
 fn solve_block(
     left: &[u8],
     right: &[u8],
@@ -48,21 +41,17 @@ fn solve_block(
     room: &mut [f32],
 )
     requires { ⌜ Fit (now left) (now right) w h opts (length (now out)) (length (now whole)) × (length (now room) ≡ cellsIn w h opts) ⌝ }
-    ensures { λ _. ⌜ (now (out .exit) ≡ map inBuffer (blockMap w h (half opts) (searchOf opts) (gatesOf opts) (volumeOf w h opts side (now (left .entry)) (now (right .entry))))) × (now (whole .exit) ≡ cleared 0 (5 * cells w h) (now (whole .entry))) ⌝ }
+    ensures { λ _. ⌜ (now (out .exit) ≡ map inBuffer (blockMap w h (half opts) (searchOf opts) (gatesOf opts) (volumeOf w h opts side (now (left .entry)) (now (right .entry))))) × (now (whole .exit) ≡ cleared 0 (5 * cells w h) (now (whole .entry))) × (now (room .exit) ≡ volumeOf w h opts side (now (left .entry)) (now (right .entry))) ⌝ }
 {
     volume_of(left, right, w, h, opts, side, room, whole);
-    let gates = Gates {
-        min_correlation: opts.min_correlation,
-        uniqueness_ratio: opts.uniqueness_ratio,
-    };
-    select_block(out, room, w, h, opts.block_size / 2, search_of(opts), gates);
+    choose_block(out, room, w, h, opts, Seen::Own);
 }
 
-// In a room of three volumes, the raw volume in the third: the matching costs go to the first, their path sums to the second,
-// and the path costs take the place of the raw volume.
+// In a room of three volumes, the raw volume in the third: the matching costs go to the first and stay there, their path sums
+// go to the second, and the path costs take the place of the raw volume.
 fn sum_paths(room: &mut [f32], w: usize, h: usize, count: usize, p1: f32, p2: f32)
-    requires { ⌜ ThreeVolumes (length (now room)) w h count ⌝ }
-    ensures { λ _. ⌜ run (count * (w * h)) (count * (w * h)) (now (room .exit)) ≡ pathSums w h count p1 p2 (matchingCosts (w * h) count (run (count * (w * h)) (2 * (count * (w * h))) (now (room .entry)))) ⌝ }
+    requires { ⌜ ThreeVolumes (length (now room)) w h count × Bounded p1 p2 (matchingCosts (w * h) count (run (count * (w * h)) (2 * (count * (w * h))) (now room))) ⌝ }
+    ensures { λ _. ⌜ (let c = matchingCosts (w * h) count (run (count * (w * h)) (2 * (count * (w * h))) (now (room .entry))) in (run (count * (w * h)) (count * (w * h)) (now (room .exit)) ≡ pathSums w h count p1 p2 c) × (run (count * (w * h)) 0 (now (room .exit)) ≡ c)) ⌝ }
 {
     let area = w * h;
     let one = count * area;
@@ -71,7 +60,22 @@ fn sum_paths(room: &mut [f32], w: usize, h: usize, count: usize, p1: f32, p2: f3
     aggregate_sgm(room, 0, two, one, w, h, count, p1, p2);
 }
 
-// By path sums.
+// The same for the other picture, from the matching costs in the first volume: those turned go to the second, and their path
+// sums take the place of the first.
+fn sum_turned(room: &mut [f32], turn: Turn, p1: f32, p2: f32)
+    requires { ⌜ ThreeVolumes (length (now room)) (turn .w) (turn .h) (turn .count) × Turnable (turn .w) (turn .count) (turn .first) × Bounded p1 p2 (turnedCosts (turn .w) (turn .h) (turn .first) (turn .count) (run (turn .count * (turn .w * turn .h)) 0 (now room))) ⌝ }
+    ensures { λ _. ⌜ run (turn .count * (turn .w * turn .h)) 0 (now (room .exit)) ≡ pathSums (turn .w) (turn .h) (turn .count) p1 p2 (turnedCosts (turn .w) (turn .h) (turn .first) (turn .count) (run (turn .count * (turn .w * turn .h)) 0 (now (room .entry)))) ⌝ }
+{
+    let w = turn.w;
+    let h = turn.h;
+    let count = turn.count;
+    let one = count * (w * h);
+    let two = 2 * one;
+    turn_costs(room, 0, one, turn);
+    aggregate_sgm(room, one, two, 0, w, h, count, p1, p2);
+}
+
+// By path sums: the matching costs stay in the first volume.
 fn solve_semi_global(
     left: &[u8],
     right: &[u8],
@@ -83,8 +87,8 @@ fn solve_semi_global(
     whole: &mut [u64],
     room: &mut [f32],
 )
-    requires { ⌜ Fit (now left) (now right) w h opts (length (now out)) (length (now whole)) × (length (now room) ≡ 3 * cellsIn w h opts) ⌝ }
-    ensures { λ _. ⌜ (now (out .exit) ≡ map inBuffer (semiMap w h (half opts) (searchOf opts) (sumsFrom w h opts (volumeOf w h opts side (now (left .entry)) (now (right .entry)))))) × (now (whole .exit) ≡ cleared 0 (5 * cells w h) (now (whole .entry))) ⌝ }
+    requires { ⌜ Fit (now left) (now right) w h opts (length (now out)) (length (now whole)) × (length (now room) ≡ 3 * cellsIn w h opts) × (opts .«semi_global» ≡ true) ⌝ }
+    ensures { λ _. ⌜ (now (out .exit) ≡ map inBuffer (semiMap w h (half opts) (searchOf opts) (sumsFrom w h opts (volumeOf w h opts side (now (left .entry)) (now (right .entry)))))) × (now (whole .exit) ≡ cleared 0 (5 * cells w h) (now (whole .entry))) × (take (cellsIn w h opts) (now (room .exit)) ≡ matchingCosts (w * h) (countOf opts) (volumeOf w h opts side (now (left .entry)) (now (right .entry)))) ⌝ }
 {
     let search = search_of(opts);
     let count = search.count;
@@ -96,7 +100,7 @@ fn solve_semi_global(
     select_sgm(out, &room[one..two], w, h, opts.block_size / 2, search);
 }
 
-// The map made from one side.
+// The map made from one side, and what stays of its raw costs.
 pub fn solve_direction(
     left: &[u8],
     right: &[u8],
@@ -109,11 +113,47 @@ pub fn solve_direction(
     room: &mut [f32],
 )
     requires { ⌜ Fit (now left) (now right) w h opts (length (now out)) (length (now whole)) × (length (now room) ≡ sideCells w h opts) ⌝ }
-    ensures { λ _. ⌜ (now (out .exit) ≡ sideMap w h opts (volumeOf w h opts side (now (left .entry)) (now (right .entry)))) × (now (whole .exit) ≡ cleared 0 (5 * cells w h) (now (whole .entry))) ⌝ }
+    ensures { λ _. ⌜ (now (out .exit) ≡ sideMap w h opts (volumeOf w h opts side (now (left .entry)) (now (right .entry)))) × (now (whole .exit) ≡ cleared 0 (5 * cells w h) (now (whole .entry))) × (take (cellsIn w h opts) (now (room .exit)) ≡ keptOf w h opts (volumeOf w h opts side (now (left .entry)) (now (right .entry)))) ⌝ }
 {
     if opts.semi_global {
         solve_semi_global(left, right, w, h, opts, side, out, whole, room);
     } else {
         solve_block(left, right, w, h, opts, side, out, whole, room);
+    }
+}
+
+// The left map by path sums, from the right picture's matching costs in the first volume.
+fn turn_semi_global(out: &mut [f32], room: &mut [f32], w: usize, h: usize, opts: BlockMatchOptions)
+    requires { ⌜ Turning w h opts (length (now out)) (now room) × (length (now room) ≡ 3 * cellsIn w h opts) × (opts .«semi_global» ≡ true) ⌝ }
+    ensures { λ _. ⌜ ((left right : List ℕ) → Kept left right w h opts (now (room .entry)) → now (out .exit) ≡ map inBuffer (semiMap w h (half opts) (searchOf opts) (sumsFrom w h opts (volumeOf w h opts Left left right)))) ⌝ }
+{
+    let search = search_of(opts);
+    let count = search.count;
+    let one = count * (w * h);
+    let turn = Turn {
+        w,
+        h,
+        count,
+        first: search.first,
+    };
+    sum_turned(room, turn, opts.sgm_p1, opts.sgm_p2);
+    select_sgm(out, &room[0..one], w, h, opts.block_size / 2, search);
+}
+
+// The left map, from what stays of the right picture's raw costs.
+pub fn turn_direction(
+    out: &mut [f32],
+    room: &mut [f32],
+    w: usize,
+    h: usize,
+    opts: BlockMatchOptions,
+)
+    requires { ⌜ Turning w h opts (length (now out)) (now room) × (length (now room) ≡ sideCells w h opts) ⌝ }
+    ensures { λ _. ⌜ ((left right : List ℕ) → Kept left right w h opts (now (room .entry)) → now (out .exit) ≡ sideMap w h opts (volumeOf w h opts Left left right)) ⌝ }
+{
+    if opts.semi_global {
+        turn_semi_global(out, room, w, h, opts);
+    } else {
+        choose_block(out, room, w, h, opts, Seen::Turned);
     }
 }

@@ -1,17 +1,19 @@
 // Both sides' maps and the left-right test, for a match that is accepted.
 ghost use mathlib.Core.Path.{_≡_};
 ghost use mathlib.Core.Bool.{false};
-ghost use Prim.Native.Nat.{_+_, _*_};
+ghost use Prim.Native.Nat.{ℕ, _+_, _*_};
 ghost use lib.IntN.{pos};
 ghost use lib.Ieee.{fin};
-ghost use lib.ListN.{length, drop, replicate};
+ghost use mathlib.Core.List.{List};
+ghost use lib.ListN.{length, take, drop, replicate};
 ghost use Rattle.lists.specs.Lists.{cleared};
 ghost use Rattle.options.specs.declared.Side.the-variants.{Left, Right};
 ghost use Rattle.windows.specs.Window.{cells};
 ghost use Rattle.choices.specs.LeftRight.{leftRight};
 ghost use Rattle.matching.specs.Maps.{volumeOf, sideMap, mapOf};
-ghost use Rattle.matching.specs.Fit.{Fit, sideCells};
+ghost use Rattle.matching.specs.Fit.{Fit, cellsIn, sideCells, keptOf, Kept, Turning};
 use crate::direction::solve_direction;
+use crate::direction::turn_direction;
 use choices::left_right::left_right;
 use lists::clear_f32;
 use lists::copy_f32;
@@ -47,7 +49,8 @@ fn solve_left(
     clear_f32(room);
 }
 
-// The right map, made in the output and kept behind the part of the room that a side's map works in.
+// The right map, made in the output and kept behind the part of the room that a side's map works in; what stays of its raw
+// costs is kept there too.
 fn keep_right(
     left: &[u8],
     right: &[u8],
@@ -59,7 +62,7 @@ fn keep_right(
     room: &mut [f32],
 )
     requires { ⌜ Fit (now left) (now right) w h opts (length (now out)) (length (now whole)) × (length (now room) ≡ sideCells w h opts + w * h) ⌝ }
-    ensures { λ _. ⌜ (drop (sideCells w h opts) (now (room .exit)) ≡ sideMap w h opts (volumeOf w h opts Right (now (left .entry)) (now (right .entry)))) × (now (whole .exit) ≡ cleared 0 (5 * cells w h) (now (whole .entry))) ⌝ }
+    ensures { λ _. ⌜ (drop (sideCells w h opts) (now (room .exit)) ≡ sideMap w h opts (volumeOf w h opts Right (now (left .entry)) (now (right .entry)))) × (now (whole .exit) ≡ cleared 0 (5 * cells w h) (now (whole .entry))) × (take (cellsIn w h opts) (now (room .exit)) ≡ keptOf w h opts (volumeOf w h opts Right (now (left .entry)) (now (right .entry)))) ⌝ }
 {
     let end = room.len();
     let kept = end - w * h;
@@ -77,33 +80,15 @@ fn keep_right(
     copy_f32(&mut room[kept..end], out);
 }
 
-// The left map, tested against the right map that was kept in the room, which is zero afterwards.
-fn test_left(
-    left: &[u8],
-    right: &[u8],
-    w: usize,
-    h: usize,
-    opts: BlockMatchOptions,
-    out: &mut [f32],
-    whole: &mut [u64],
-    room: &mut [f32],
-)
-    requires { ⌜ Fit (now left) (now right) w h opts (length (now out)) (length (now whole)) × (length (now room) ≡ sideCells w h opts + w * h) ⌝ }
-    ensures { λ _. ⌜ (now (out .exit) ≡ leftRight w (opts .«lr_max_diff») (sideMap w h opts (volumeOf w h opts Left (now (left .entry)) (now (right .entry)))) (drop (sideCells w h opts) (now (room .entry)))) × (now (whole .exit) ≡ cleared 0 (5 * cells w h) (now (whole .entry))) × (now (room .exit) ≡ replicate (length (now (room .entry))) (fin false 0 (pos 0))) ⌝ }
+// The left map, from what stays of the right picture's raw costs, tested against the right map that was kept in the room, which
+// is zero afterwards.
+fn test_left(out: &mut [f32], room: &mut [f32], w: usize, h: usize, opts: BlockMatchOptions)
+    requires { ⌜ Turning w h opts (length (now out)) (now room) × (length (now room) ≡ sideCells w h opts + w * h) ⌝ }
+    ensures { λ _. ⌜ ((left right : List ℕ) → Kept left right w h opts (now (room .entry)) → now (out .exit) ≡ leftRight w (opts .«lr_max_diff») (sideMap w h opts (volumeOf w h opts Left left right)) (drop (sideCells w h opts) (now (room .entry)))) × (now (room .exit) ≡ replicate (length (now (room .entry))) (fin false 0 (pos 0))) ⌝ }
 {
     let end = room.len();
     let kept = end - w * h;
-    solve_direction(
-        left,
-        right,
-        w,
-        h,
-        opts,
-        Side::Left,
-        out,
-        whole,
-        &mut room[0..kept],
-    );
+    turn_direction(out, &mut room[0..kept], w, h, opts);
     left_right(out, &room[kept..end], w, h, opts.lr_max_diff);
     clear_f32(room);
 }
@@ -123,7 +108,7 @@ fn solve_both(
     ensures { λ _. ⌜ (now (out .exit) ≡ leftRight w (opts .«lr_max_diff») (sideMap w h opts (volumeOf w h opts Left (now (left .entry)) (now (right .entry)))) (sideMap w h opts (volumeOf w h opts Right (now (left .entry)) (now (right .entry))))) × (now (whole .exit) ≡ cleared 0 (5 * cells w h) (now (whole .entry))) × (now (room .exit) ≡ replicate (length (now (room .entry))) (fin false 0 (pos 0))) ⌝ }
 {
     keep_right(left, right, w, h, opts, out, whole, room);
-    test_left(left, right, w, h, opts, out, whole, room);
+    test_left(out, room, w, h, opts);
 }
 
 // The map of a match that is accepted.

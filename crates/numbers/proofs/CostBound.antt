@@ -1,26 +1,29 @@
 -- The raw cost of a covariance z and two variances a and b, z / (root a * root b), each step rounded once to an `f64` and the quotient narrowed to an `f32`:
--- it lies from -1 to 1 wherever z * z ≤ a * b. Assumes nothing.
+-- it lies from -1 to 1 wherever z * z ≤ a * b, and before it is narrowed it is a zero or from 2 ^ -126 to 2 in size. Assumes nothing.
 use mathlib.Core.Path.{_≡_, refl, ap, _∙_}
+use mathlib.Core.Logic.{⊎-elim}
 use Prim.Native.Nat.{ℕ, suc, _+_, _*_, _/_, _^_, _≤_, _<_}
-use native.Mathlib.Nat.{le-of-lt, le-of-eq, le-of-suc-le-suc, le-antisymm, lt-of-lt-of-le, lt-of-le-of-lt, mul-pos, mul-mul-mul-comm, mul-le-mul, mul-le-mul-right, le-of-mul-le-mul-right, div-mul-le-self}
+use native.Mathlib.Nat.{le-of-lt, le-of-suc-le-suc, le-antisymm, lt-of-lt-of-le, lt-of-le-of-lt, mul-pos, mul-mul-mul-comm, mul-le-mul, mul-le-mul-left, mul-le-mul-right, zero-mul, eq-zero-or-pos, le-of-mul-le-mul-right, div-mul-le-self}
 use native.Mathlib.Omega.{arith}
 use mathlib.Core.Bool.{Bool, true, false, not, _&&_, _||_, cond, true≢false}
-use lib.Dec.{T, ltb, eqb, ltb→lt, nltb→le, eqb→eq, lit≤, lit<}
+use lib.Dec.{T, ltb, eqb, ltb→lt, nltb→le, lit≤, lit<}
 use borrow.Author.Tests.{lt-ltb, ne-eqb}
 use lib.Pow.{pow-add, pow-pos}
 use lib.IntN.{ℤ, pos, negsuc, natAbs}
-use lib.Ieee.{Float, nan, inf, fin, Format, binary32, binary64, up, down, unlike, round, mul, div, le, ofInt}
-use lib.Ieee.Fits.{up-pos, down-pos, and-l, and-i, eq→eqb}
+use lib.Ieee.{Float, nan, inf, fin, Format, binary32, binary64, up, down, unlike, round, mul, div, eq, le, ofInt, ofBits}
+use lib.Ieee.Fits.{up-pos, down-pos, and-i, eq→eqb}
 use lib.Ieee.Back.{round-whole}
 use lib.Ieee.Exact.{HasValue}
 use lib.Ieee.Order.{round-mono}
 use lib.Ieee.Scale.{round-same}
 use lib.Ieee.Positive.{num, den, den-pos, positive, positive-of-value, value-pos, own-value, values-of-le, between, mul-at}
-use Rattle.numbers.specs.Narrow.{narrowed}
+use Rattle.numbers.specs.Narrow.{narrowed, Moderate, nothing}
 use Rattle.numbers.specs.Plain.{magnitudeOf}
 use Rattle.numbers.specs.Root.{places, rootOf}
+use Rattle.numbers.proofs.Moderately.{round-nothing, round-within}
 use Rattle.numbers.proofs.Patterns.{sized-round}
 use Rattle.numbers.proofs.Squares.{four, root-lt}
+use Rattle.numbers.proofs.Values.{le-says}
 use Rattle.numbers.proofs.Rooted.{digits, digits-lo, digits-hi, digits-near, places-most, round-value, root-value}
 
 -- ---- whole numbers: with x and y for the digits of the two roots, and d for 2 ^ (the places of both)
@@ -105,16 +108,29 @@ module _ (a b : ℕ) (alo : 1 ≤ a) (ahi : a ≤ 2 ^ 53) (blo : 1 ≤ b) (bhi :
   lower-positive : T (positive lower)
   lower-positive = positive-of-value lower (lead x y * 2 ^ 53) d lower-value (mul-pos (lt-of-lt-of-le (pow-pos 51) lead-least) (pow-pos 53))
 
+  upper-value : HasValue upper false (1 * 2 ^ 106) d
+  upper-value = rw (← pow-add 2 (places a) (places b)) (round-value 1 106 (places a + places b) (lit< tt) (lit≤ tt) few)
+
   upper-positive : T (positive upper)
-  upper-positive = positive-of-value upper (1 * 2 ^ 106) d (rw (← pow-add 2 (places a) (places b)) (round-value 1 106 (places a + places b) (lit< tt) (lit≤ tt) few)) (lit< tt)
+  upper-positive = positive-of-value upper (1 * 2 ^ 106) d upper-value (lit< tt)
 
   above-lower : T (le lower product)
   above-lower = rw product-is (round-mono binary64 (lead x y * 2 ^ 53) d (x * y) d d-pos d-pos (mul-le-mul-right d (div-mul-le-self (x * y) (2 ^ 53))))
 
+  below-upper : T (le product upper)
+  below-upper = rw product-is (round-mono binary64 (x * y) d (1 * 2 ^ 106) d d-pos d-pos (mul-le-mul-right d (le-of-lt below)))
+
   pub product-positive : T (positive product)
-  product-positive =
-      between lower product upper lower-positive upper-positive above-lower
-      (rw product-is (round-mono binary64 (x * y) d (1 * 2 ^ 106) d d-pos d-pos (mul-le-mul-right d (le-of-lt below))))
+  product-positive = between lower product upper lower-positive upper-positive above-lower below-upper
+
+  -- it is at most 2 ^ 106, so that 1 over it is no less than 2 ^ -126
+  product-most : num product ≤ 2 ^ 106 * den product
+  product-most =
+      by (num product) (den product) d d-pos
+      (values-of-le product upper (num product) (den product) (1 * 2 ^ 106) d product-positive upper-positive (own-value product product-positive) upper-value below-upper)
+    where
+      by : (n m d : ℕ) → 0 < d → n * d ≤ 1 * 2 ^ 106 * m → n ≤ 2 ^ 106 * m
+      by n m d D h = omega (arith, mul-le-mul-left n D)
 
   -- c over the product is at most 1 + 2 ^ -29
   ratio : (c : ℕ) → c * c ≤ a * b → c * den product * 2 ^ 29 ≤ (2 ^ 29 + 1) * num product
@@ -167,14 +183,7 @@ barely-narrowed : round binary32 false (2 ^ 29 + 1) (2 ^ 29) ≡ one
 unfolding round
 barely-narrowed = refl
 
--- the test that `le` makes of two numbers, and of the same numbers negated
-le-says : (p q : ℕ) → T (ltb p q || (eqb p q && true)) → p ≤ q
-le-says p q h = go (ltb p q) (ltb→lt p q) h
-  where
-    go : (z : Bool) → (T z → p < q) → T (z || (eqb p q && true)) → p ≤ q
-    go true k u = le-of-lt (k tt)
-    go false k u = le-of-eq (eqb→eq p q (and-l (eqb p q) true u))
-
+-- the test that `le` makes of two numbers negated
 turned : (p q : ℕ) → p ≤ q → T (ltb p q || (eqb q p && true))
 turned p q h = go (ltb p q) (nltb→le p q)
   where
@@ -216,14 +225,55 @@ module _ (a b : ℕ) (alo : 1 ≤ a) (ahi : a ≤ 2 ^ 53) (blo : 1 ≤ b) (bhi :
       go (pos c) l = round-whole binary64 false c l
       go (negsuc c) l = round-whole binary64 true (suc c) l
 
+  abbrev quotient : ℤ → Float
+  quotient z = div binary64 (ofInt binary64 z) (mul binary64 (rootOf a) (rootOf b))
+
+  -- the product of the roots as a fraction
+  abbrev n : ℕ
+  n = num (mul binary64 (rootOf a) (rootOf b))
+
+  abbrev m : ℕ
+  m = den (mul binary64 (rootOf a) (rootOf b))
+
+  n-pos : 0 < n
+  n-pos =
+      let r = mul binary64 (rootOf a) (rootOf b) in
+      let p : T (positive r) = product-positive a b alo ahi blo bhi in
+      value-pos r n m p (den-pos r) (own-value r p)
+
+  quotient-is : (z : ℤ) → natAbs z * natAbs z ≤ a * b → quotient z ≡ round binary64 (negative z) (natAbs z * m) n
+  quotient-is z k =
+      let r = mul binary64 (rootOf a) (rootOf b) in
+      div-at binary64 (ofInt binary64 z) r (negative z) (natAbs z) n m n-pos (den-pos r) (covariance-value z k) (own-value r (product-positive a b alo ahi blo bhi))
+
   -- THEOREM: the raw cost lies from -1 to 1
   pub cost-in-range : (z : ℤ) → natAbs z * natAbs z ≤ a * b
       → T (le minus-one (narrowed (div binary64 (ofInt binary64 z) (mul binary64 (rootOf a) (rootOf b))))) × T (le (narrowed (div binary64 (ofInt binary64 z) (mul binary64 (rootOf a) (rootOf b)))) one)
   cost-in-range z k =
-      let r = mul binary64 (rootOf a) (rootOf b) in
-      let p : T (positive r) = product-positive a b alo ahi blo bhi in
-      let n : 0 < num r = value-pos r (num r) (den r) p (den-pos r) (own-value r p) in
-      both-ways (narrowed (div binary64 (ofInt binary64 z) r))
-      (narrowed-to-one (div binary64 (ofInt binary64 z) r)
-      (rw (div-at binary64 (ofInt binary64 z) r (negative z) (natAbs z) (num r) (den r) n (den-pos r) (covariance-value z k) (own-value r p), sized-round binary64 (negative z) (natAbs z * den r) (num r), ← barely-is)
-      (round-mono binary64 (natAbs z * den r) (num r) (2 ^ 29 + 1) (2 ^ 29) n (pow-pos 29) (ratio a b alo ahi blo bhi (natAbs z) k))))
+      both-ways (narrowed (quotient z))
+      (narrowed-to-one (quotient z)
+      (rw (quotient-is z k, sized-round binary64 (negative z) (natAbs z * m) n, ← barely-is)
+      (round-mono binary64 (natAbs z * m) n (2 ^ 29 + 1) (2 ^ 29) n-pos (pow-pos 29) (ratio a b alo ahi blo bhi (natAbs z) k))))
+
+  -- THEOREM: before it is narrowed it is of moderate size
+  pub cost-moderate : (z : ℤ) → natAbs z * natAbs z ≤ a * b → Moderate (div binary64 (ofInt binary64 z) (mul binary64 (rootOf a) (rootOf b)))
+  cost-moderate z k =
+      rw (quotient-is z k)
+      (⊎-elim
+      (λ (e : natAbs z ≡ 0). round-nothing (negative z) (natAbs z * m) n n-pos (rw (e, zero-mul m)))
+      (λ (l : 0 < natAbs z).
+      round-within (negative z) (natAbs z * m) n n-pos
+      (small (natAbs z) m n l (product-most a b alo ahi blo bhi))
+      (large (natAbs z * m) n (ratio a b alo ahi blo bhi (natAbs z) k)))
+      (eq-zero-or-pos (natAbs z)))
+    where
+      small : (c m n : ℕ) → 0 < c → n ≤ 2 ^ 106 * m → n ≤ c * m * 2 ^ 126
+      small c m n C h = omega (arith, mul-le-mul-right m C)
+
+      large : (p n : ℕ) → p * 2 ^ 29 ≤ (2 ^ 29 + 1) * n → p ≤ 2 * n
+      large p n h = omega arith
+
+-- nothing over 1.0
+pub none-moderate : Moderate (div binary64 (ofInt binary64 (pos 0)) (ofBits binary64 (1023 * 2 ^ 52)))
+unfolding div ofInt ofBits eq
+none-moderate = nothing tt

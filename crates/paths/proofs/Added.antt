@@ -128,6 +128,9 @@ module _ (w h count : ℕ) (p1 p2 : Float) {costs paths sums : ℕ} {v₁ : List
     pub added-room : Room v n costs paths sums
     added-room = same-room room v added-length
 
+    pub added-costs : run (w * h * count) costs v ≡ run (w * h * count) costs v₁
+    added-costs = ap (run n costs) (a .is) ∙ both-costs room (a .l) (a .s) (a .l-length) (a .s-length)
+
     pub added-more : k < 8 → (v′ : List Float)
         → v′ ≡ put (put v paths (pathVolume (walkAlong w h count p1 p2 (getD directions k [])) (run n costs v))) sums
         (addVec (run n sums v) (pathVolume (walkAlong w h count p1 p2 (getD directions k [])) (run n costs v)))
@@ -139,14 +142,13 @@ module _ (w h count : ℕ) (p1 p2 : Float) {costs paths sums : ℕ} {v₁ : List
         let l′ = pathVolume (along (getD directions k [])) c in
         let hl′ = volume-length (along (getD directions k [])) c (length-run n costs v₁ (room .costs-paths .a-in)) in
         let hs′ = length-sum (a .s) l′ ∙ a .s-length in
-        let costs-now : run n costs v ≡ c = ap (run n costs) (a .is) ∙ both-costs room (a .l) (a .s) (a .l-length) (a .s-length) in
         let sums-now : run n sums v ≡ a .s = ap (run n sums) (a .is) ∙ both-sums room (a .l) (a .s) (a .l-length) (a .s-length) in
         record {
           l = l′;
           s = addVec (a .s) l′;
           l-length = hl′;
           s-length = hs′;
-          is = rw (costs-now, sums-now) at e ∙ ap (λ (z : List Float). put (put z paths l′) sums (addVec (a .s) l′)) (a .is)
+          is = rw (added-costs, sums-now) at e ∙ ap (λ (z : List Float). put (put z paths l′) sums (addVec (a .s) l′)) (a .is)
               ∙ put-both room (a .l) (a .s) (a .l-length) (a .s-length) l′ (addVec (a .s) l′) hl′ hs′;
           rest = add-one-path along c (a .s) k hk ∙ a .rest;
           last = λ z. ap (λ (j : ℕ). pathVolume (along (getD directions j [])) c) next;
@@ -180,7 +182,7 @@ module _ (w h count : ℕ) {costs paths sums : ℕ} {v₀ : List Float} (room : 
   pub cleared-sums : run m sums v₁ ≡ zeros m
   cleared-sums = ap (run m sums) e ∙ run-put v₀ sums (zeros m) zeros-in m (sym zeros-length)
 
-  cleared-costs : run m costs v₁ ≡ run m costs v₀
+  pub cleared-costs : run (w * h * count) costs v₁ ≡ run (w * h * count) costs v₀
   cleared-costs = ap (run m costs) e ∙ run-out v₀ sums (zeros m) zeros-in m costs (room .costs-sums .a-in) (rw zeros-length (room .costs-sums .apart))
 
   pub added-done : {p1 p2 : Float} {v : List Float} → Added w h count p1 p2 costs paths sums v₁ v 8

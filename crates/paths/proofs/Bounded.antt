@@ -239,10 +239,14 @@ module _ (k : Walk) (c : List Float) (dir : Direction (k .dx) (k .dy)) (k1 : Add
       from-range (pathWithin k c n) p hp (previousOf k p)
       (λ q e. let hq = previous-in k dir p hp q e in (within-length k c size n q hq, within-range n q hq))
 
+  pub path-range : (p : ℕ) → p < pixelsIn k → All (UpTo 1027) (pathAt k c p)
+  unfolding pathAt
+  path-range p hp = within-range (pixelsIn k) p hp
+
   -- each path cost lies from 0 to 1027
   pub volume-range : All (UpTo 1027) (pathVolume k c)
-  unfolding pathVolume pathAt
-  volume-range = all-joined (UpTo 1027) (pixelsIn k) (pathAt k c) (λ p hp. within-range (pixelsIn k) p hp)
+  unfolding pathVolume
+  volume-range = all-joined (UpTo 1027) (pixelsIn k) (pathAt k c) path-range
 
 -- ---- the sums
 

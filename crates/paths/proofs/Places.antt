@@ -3,7 +3,7 @@ use Prim.Native.Nat.{ℕ, zero, suc, _+_, _-_, _*_, _/_, _%_, _<_, _≤_}
 use mathlib.Core.Path.{_≡_, refl, sym, ap, _∙_}
 use mathlib.Core.Bool.{Bool, true, false, cond}
 use mathlib.Core.Logic.{⊎-elim}
-use native.Mathlib.Nat.{add-zero, mod-lt, div-add-mod', suc-mul}
+use native.Mathlib.Nat.{add-zero, mod-lt, div-add-mod', suc-mul, zero-mul, add-mul, mul-comm, mul-le-mul-right}
 use native.Mathlib.Numerals.{add-one}
 use native.Mathlib.Omega.{arith}
 use borrow.Author.Tests.{lt-ltb, le-ltb, ltb-true}
@@ -12,6 +12,7 @@ use lib.IntN.{ℤ, pos, negsuc, _-ℤ_, subℕ}
 use mir.Syntax.{w32}
 use mir.Val.{ofZ, toZ}
 use Rattle.lists.proofs.Rows.{pixel-in, mul-pos-left}
+use Rattle.lists.proofs.Tests.{lt-or-le}
 use Rattle.paths.specs.declared.direction.Walk.{Walk}
 use Rattle.paths.specs.declared.direction.Place.{Place}
 use Rattle.paths.specs.declared.direction.Place.the-variants.{At, Nowhere}
@@ -200,3 +201,36 @@ rank-one false n p q hp hq e = omega arith
 pub rank-below : (f : Bool) (n p : ℕ) → p < n → rankOf f n p < n
 rank-below true n p h = h
 rank-below false n p h = omega arith
+
+-- ---- turn i of line j, beside the number of the turn
+
+pub record OnLine (w t i j : ℕ) : Type 0 where
+  pub is : t ≡ j * w + i
+  pub inside : 0 < w → i < w
+
+pub line-start : (w : ℕ) → OnLine w 0 0 0
+line-start w = record { is = omega (arith, zero-mul w); inside = λ h. h }
+
+pub line-in : (w h t i j : ℕ) → t ≡ j * w + i → t < w * h → j < h
+line-in w h t i j e l =
+    ⊎-elim (λ (b : j < h). b) (λ (b : h ≤ j). absurd (omega (arith, mul-le-mul-right w b, mul-comm w h))) (lt-or-le j h)
+
+pub line-next : (w t i j : ℕ) → OnLine w t i j → i < w → (i′ j′ : ℕ) → i′ ≡ cond (ltb (i + 1) w) (i + 1) 0 → j′ ≡ cond (ltb (i + 1) w) j (j + 1) → OnLine w (t + 1) i′ j′
+line-next w t i j o h i′ j′ ei ej =
+    ⊎-elim
+    (λ (l : i + 1 < w). let a : i′ ≡ i + 1 = rw (lt-ltb (i + 1) w l) at ei in
+    let b : j′ ≡ j = rw (lt-ltb (i + 1) w l) at ej in
+    record { is = omega (arith, o .is, ap (λ (z : ℕ). z * w) b); inside = λ z. omega arith })
+    (λ (l : w ≤ i + 1). let a : i′ ≡ 0 = rw (le-ltb (i + 1) w l) at ei in
+    let b : j′ ≡ j + 1 = rw (le-ltb (i + 1) w l) at ej in
+    record { is = omega (arith, o .is, ap (λ (z : ℕ). z * w) (b ∙ add-one j), suc-mul j w); inside = λ z. omega arith })
+    (lt-or-le (i + 1) w)
+
+-- the pixel of a turn, by its column and its row
+pub turn-pixel : (f : Bool) (w h i j : ℕ) → i < w → j < h → cond f j (h - 1 - j) * w + cond f i (w - 1 - i) ≡ cond f (j * w + i) (w * h - 1 - (j * w + i))
+turn-pixel true w h i j hi hj = refl
+turn-pixel false w h i j hi hj =
+    let b : ℕ = h - 1 - j in
+    let e : b + suc j ≡ h = omega arith in
+    let m : b * w + suc j * w ≡ h * w = sym (add-mul b (suc j) w) ∙ ap (λ (z : ℕ). z * w) e in
+    omega (arith, suc-mul j w, mul-comm w h)

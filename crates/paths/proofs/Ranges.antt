@@ -78,6 +78,10 @@ penalty-fits p f h =
     by (fin true m e) f l h = no-size m e l
     by (fin false m e) f l h = (f, rw (mul-one (m * up e)) at (le-cross m 1 e (pos 10) h))
 
+-- so it adds its count
+pub adds : (p : Float) → T (fits binary32 p) → isPenalty p ≡ true → Adds p
+adds p f h = penalty p (penalty-fits p f h)
+
 -- ---- the path costs and their sums
 
 -- the matching costs of a raw volume of which the first area * count cells are raw costs in range
@@ -108,9 +112,6 @@ module _ (w h count : ℕ) (p1 p2 : Float) (volume : List Float) (some : 0 < cou
 
   costs : All (UpTo 2) (matchingCosts (w * h) count volume)
   costs = costs-range (w * h) count volume raw
-
-  adds : (p : Float) → T (fits binary32 p) → isPenalty p ≡ true → Adds p
-  adds p f h = penalty p (penalty-fits p f h)
 
   -- THEOREM: each L lies from 0 to 1,027, in every direction
   pub path-costs-range : (dx dy : ℤ) → Direction dx dy → All (UpTo 1027) (pathVolume (walkAlong w h count p1 p2 (dx ∷ dy ∷ [])) (matchingCosts (w * h) count volume))

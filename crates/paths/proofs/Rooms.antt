@@ -152,7 +152,7 @@ module _ (k : Walk) {costs paths sums : ℕ} {v₀ : List Float} (room : Room v�
   sweep-room {v} w = same-room room v (sweep-length w)
 
   module _ {v : List Float} {t : ℕ} (w : Sweep k costs paths sums v₀ v t) where
-    paths-now : run n paths v ≡ w .l
+    pub paths-now : run (cellsIn k) paths v ≡ w .l
     paths-now = ap (run n paths) (w .is) ∙ both-paths room (w .l) (w .s) (w .visited .l-length) (w .visited .s-length)
 
     sums-now : run n sums v ≡ w .s

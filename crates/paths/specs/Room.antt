@@ -1,8 +1,8 @@
 -- Runs of cells in one list: the raw costs, the matching costs, the path costs and the sums all lie in one room. Definitions only.
-use Prim.Native.Nat.{ℕ, _+_, _≤_}
+use Prim.Native.Nat.{ℕ, zero, suc, _+_, _*_, _≤_}
 use mathlib.Core.List.{List, _++_}
 use mathlib.Core.Logic.{_⊎_}
-use lib.ListN.{length, take, drop}
+use lib.ListN.{length, take, drop, set}
 use lib.Ieee.{Float}
 
 -- the n cells of v from index at
@@ -13,11 +13,22 @@ run n at v = take n (drop at v)
 abbrev pub put : List Float → ℕ → List Float → List Float
 put v at s = take at v ++ s ++ drop (at + length s) v
 
+-- v with cell k of each of n runs of m cells, the first from index at, replaced: that of run d by g d
+unfoldable pub spread : ℕ → ℕ → ℕ → ℕ → (ℕ → Float) → List Float → List Float
+spread zero at m k g v = v
+spread (suc n) at m k g v = set (spread n at m k g v) (at + (n * m + k)) (g n)
+
 -- two runs of n cells, from a and from b, lie in v and have no cell in common
 pub record Runs (v : List Float) (a b n : ℕ) : Type 0 where
   pub a-in : a + n ≤ length v
   pub b-in : b + n ≤ length v
   pub apart : (a + n ≤ b) ⊎ (b + n ≤ a)
+
+-- a run of n cells from a and one of m cells from b lie in v and have no cell in common
+pub record Apart (v : List Float) (a n b m : ℕ) : Type 0 where
+  pub a-in : a + n ≤ length v
+  pub b-in : b + m ≤ length v
+  pub apart : (a + n ≤ b) ⊎ (b + m ≤ a)
 
 -- the volumes of n cells for the matching costs, the path costs and the sums: any two are such runs
 pub record Room (v : List Float) (n costs paths sums : ℕ) : Type 0 where

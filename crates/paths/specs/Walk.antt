@@ -12,6 +12,7 @@ use lib.Ieee.{Float, fin}
 use Rattle.paths.specs.declared.direction.Walk.{Walk}
 use Rattle.paths.specs.declared.direction.Place.{Place}
 use Rattle.paths.specs.declared.direction.Place.the-variants.{At, Nowhere}
+use Rattle.paths.specs.Bounds.{UpTo, All}
 use Rattle.paths.specs.Path.{stepVec, addVec}
 use Rattle.paths.specs.Room.{run}
 
@@ -51,6 +52,10 @@ pathOver k l c p = pathFrom k (cellsOf (k .count) l) (cellsOf (k .count) c p) (p
 unfoldable pub pathWithin : Walk → List Float → ℕ → ℕ → List Float
 pathWithin k c zero p = cellsOf (k .count) c p
 pathWithin k c (suc n) p = pathFrom k (pathWithin k c n) (cellsOf (k .count) c p) (previousOf k p)
+
+-- the path costs of the pixel before p are known to be in their range
+abbrev pub ReadyAt : Walk → List Float → ℕ → Type 0
+ReadyAt k l p = (q : ℕ) → previousOf k p ≡ At q → All (UpTo 1027) (cellsOf (k .count) l q)
 
 -- how many pixels there are
 abbrev pub pixelsIn : Walk → ℕ

@@ -2,9 +2,11 @@
 ghost use mathlib.Core.Path.{_≡_};
 ghost use mathlib.Core.Bool.{cond};
 ghost use Prim.Native.Nat.{_+_, _-_, _*_, _^_, _<_};
+ghost use lib.Dec.{ltb};
+ghost use Rattle.paths.specs.Bounds.{Bounded};
 ghost use Rattle.paths.specs.Path.{addVec};
 ghost use Rattle.paths.specs.Room.{run, put, Runs, Room};
-ghost use Rattle.paths.specs.Walk.{stepBack, previousOf, cellsOf, pathOver, pathVolume, isForward, UnitStep, Direction, pixelsIn, cellsIn};
+ghost use Rattle.paths.specs.Walk.{stepBack, previousOf, cellsOf, pathOver, ReadyAt, pathVolume, isForward, UnitStep, Direction, pixelsIn, cellsIn};
 use crate::pixel::add_path;
 use crate::pixel::path_pixel;
 use crate::pixel::path_start;
@@ -46,19 +48,19 @@ fn step_back(n: usize, step: i32, x: usize) -> Place
     Place::Nowhere
 }
 
-// The previous pixel of pixel p.
-fn previous(walk: Walk, p: usize) -> Place
-    requires { ⌜ Direction (walk .dx) (walk .dy) × (p < pixelsIn walk) × (pixelsIn walk < 2 ^ 64) ⌝ }
-    ensures { λ r. ⌜ r ≡ previousOf walk p ⌝ }
+// The previous pixel of the pixel in column x of row y.
+fn previous(walk: Walk, x: usize, y: usize) -> Place
+    requires { ⌜ Direction (walk .dx) (walk .dy) × (x < walk .w) × (y < walk .h) × (pixelsIn walk < 2 ^ 64) ⌝ }
+    ensures { λ r. ⌜ r ≡ previousOf walk (y * walk .w + x) ⌝ }
 {
     let w = walk.w;
-    let Place::At(x) = step_back(w, walk.dx, p % w) else {
+    let Place::At(column) = step_back(w, walk.dx, x) else {
         return Place::Nowhere;
     };
-    let Place::At(y) = step_back(walk.h, walk.dy, p / w) else {
+    let Place::At(row) = step_back(walk.h, walk.dy, y) else {
         return Place::Nowhere;
     };
-    Place::At(y * w + x)
+    Place::At(row * w + column)
 }
 
 // Whether the previous pixel has a smaller number, so that pixels are visited upwards.
@@ -72,50 +74,91 @@ fn is_forward(walk: Walk) -> bool
     walk.dy == 1
 }
 
-// The pixel that is visited at turn t.
-fn visited(forward: bool, pixels: usize, t: usize) -> usize
-    requires { ⌜ t < pixels ⌝ }
-    ensures { λ r. ⌜ r ≡ cond forward t (pixels - 1 - t) ⌝ }
+// The place on a line of n that is visited at turn t.
+fn visited(forward: bool, n: usize, t: usize) -> usize
+    requires { ⌜ t < n ⌝ }
+    ensures { λ r. ⌜ r ≡ cond forward t (n - 1 - t) ⌝ }
 {
-    if forward { t } else { pixels - 1 - t }
+    if forward { t } else { n - 1 - t }
 }
 
-// The path costs of pixel p, from those of the previous pixel, which is done.
-fn path_at(v: &mut [f32], costs: usize, paths: usize, walk: Walk, p: usize)
+// The turn on a line of n after turn i, and 0 after the last.
+fn next_turn(n: usize, i: usize) -> usize
+    requires { ⌜ i < n ⌝ }
+    ensures { λ r. ⌜ r ≡ cond (ltb (i + 1) n) (i + 1) 0 ⌝ }
+{
+    if i + 1 < n { i + 1 } else { 0 }
+}
+
+// The line of that turn, where turn i is on line j.
+fn next_line(n: usize, i: usize, j: usize) -> usize
+    requires { ⌜ (i < n) × (j + 1 < 2 ^ 64) ⌝ }
+    ensures { λ r. ⌜ r ≡ cond (ltb (i + 1) n) j (j + 1) ⌝ }
+{
+    if i + 1 < n { j } else { j + 1 }
+}
+
+// The path costs of the pixel in column x of row y, from those of the previous pixel, which is done.
+fn path_at(v: &mut [f32], costs: usize, paths: usize, walk: Walk, x: usize, y: usize)
     requires { ⌜ Direction (walk .dx) (walk .dy) ⌝ }
-    requires { ⌜ (0 < walk .count) × (p < pixelsIn walk) × Runs (now v) costs paths (cellsIn walk) ⌝ }
-    ensures { λ _. ⌜ now (v .exit) ≡ put (now (v .entry)) (paths + p * walk .count) (pathOver walk (run (cellsIn walk) paths (now (v .entry))) (run (cellsIn walk) costs (now (v .entry))) p) ⌝ }
+    requires { ⌜ (0 < walk .count) × (x < walk .w) × (y < walk .h) × Runs (now v) costs paths (cellsIn walk) × ReadyAt walk (run (cellsIn walk) paths (now v)) (y * walk .w + x) ⌝ }
+    ensures { λ _. ⌜ now (v .exit) ≡ put (now (v .entry)) (paths + (y * walk .w + x) * walk .count) (pathOver walk (run (cellsIn walk) paths (now (v .entry))) (run (cellsIn walk) costs (now (v .entry))) (y * walk .w + x)) ⌝ }
 {
     let count = walk.count;
+    let p = y * walk.w + x;
     let cost = costs + p * count;
     let at = paths + p * count;
-    let from = previous(walk, p);
+    let from = previous(walk, x, y);
     match from {
         Place::At(q) => path_pixel(v, paths + q * count, cost, at, count, walk.p1, walk.p2),
         Place::Nowhere => path_start(v, cost, at, count),
     }
 }
 
-// Visits pixel p: its path costs, and these added to its sums.
-fn path_visit(v: &mut [f32], costs: usize, paths: usize, sums: usize, walk: Walk, p: usize)
+// Visits the pixel in column x of row y: its path costs, and these added to its sums.
+fn path_visit(
+    v: &mut [f32],
+    costs: usize,
+    paths: usize,
+    sums: usize,
+    walk: Walk,
+    x: usize,
+    y: usize,
+)
     requires { ⌜ Direction (walk .dx) (walk .dy) ⌝ }
-    requires { ⌜ (0 < walk .count) × (p < pixelsIn walk) × Room (now v) (cellsIn walk) costs paths sums ⌝ }
-    ensures { λ _. ⌜ (let l = pathOver walk (run (cellsIn walk) paths (now (v .entry))) (run (cellsIn walk) costs (now (v .entry))) p in now (v .exit) ≡ put (put (now (v .entry)) (paths + p * walk .count) l) (sums + p * walk .count) (addVec (cellsOf (walk .count) (run (cellsIn walk) sums (now (v .entry))) p) l)) ⌝ }
+    requires { ⌜ (0 < walk .count) × (x < walk .w) × (y < walk .h) × Room (now v) (cellsIn walk) costs paths sums × ReadyAt walk (run (cellsIn walk) paths (now v)) (y * walk .w + x) ⌝ }
+    ensures { λ _. ⌜ (let p = y * walk .w + x in let l = pathOver walk (run (cellsIn walk) paths (now (v .entry))) (run (cellsIn walk) costs (now (v .entry))) p in now (v .exit) ≡ put (put (now (v .entry)) (paths + p * walk .count) l) (sums + p * walk .count) (addVec (cellsOf (walk .count) (run (cellsIn walk) sums (now (v .entry))) p) l)) ⌝ }
 {
-    path_at(v, costs, paths, walk, p);
+    path_at(v, costs, paths, walk, x, y);
     let count = walk.count;
+    let p = y * walk.w + x;
     add_path(v, paths + p * count, sums + p * count, count);
 }
 
-// The path costs of every pixel along one direction, each added to its sums.
+// The path costs of every pixel along one direction, each added to its sums. Turn i of line j is kept beside the number of
+// the turn, so that no turn divides.
 pub fn path_direction(v: &mut [f32], costs: usize, paths: usize, sums: usize, walk: Walk)
     requires { ⌜ Direction (walk .dx) (walk .dy) ⌝ }
-    requires { ⌜ (0 < walk .count) × Room (now v) (cellsIn walk) costs paths sums ⌝ }
+    requires { ⌜ (0 < walk .count) × Room (now v) (cellsIn walk) costs paths sums × Bounded (walk .p1) (walk .p2) (run (cellsIn walk) costs (now v)) ⌝ }
     ensures { λ _. ⌜ (let l = pathVolume walk (run (cellsIn walk) costs (now (v .entry))) in now (v .exit) ≡ put (put (now (v .entry)) paths l) sums (addVec (run (cellsIn walk) sums (now (v .entry))) l)) ⌝ }
 {
     let pixels = walk.w * walk.h;
+    let w = walk.w;
+    let h = walk.h;
     let forward = is_forward(walk);
+    let mut i = 0;
+    let mut j = 0;
     for t in 0..pixels {
-        path_visit(v, costs, paths, sums, walk, visited(forward, pixels, t));
+        path_visit(
+            v,
+            costs,
+            paths,
+            sums,
+            walk,
+            visited(forward, w, i),
+            visited(forward, h, j),
+        );
+        j = next_line(w, i, j);
+        i = next_turn(w, i);
     }
 }

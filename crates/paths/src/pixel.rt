@@ -1,10 +1,12 @@
 // The path costs of one pixel.
 ghost use mathlib.Core.Path.{_≡_};
-ghost use mathlib.Core.Bool.{false};
+ghost use mathlib.Core.Bool.{false, cond};
 ghost use Prim.Native.Nat.{_+_, _-_, _≤_, _<_};
+ghost use lib.Dec.{ltb};
 ghost use lib.ListN.{length, drop};
 ghost use lib.Seq.{paste};
 ghost use lib.Ieee.{inf};
+ghost use Rattle.paths.specs.Bounds.{UpTo, All};
 ghost use Rattle.paths.specs.Path.{leastOf, bestOf, cellOf, fromBelow, fromAbove, stepCell, stepVec, addVec};
 ghost use Rattle.paths.specs.Room.{run, put, Runs};
 use numbers::plain::smaller;
@@ -16,16 +18,24 @@ fn infinity() -> f32
     f32::from_bits(0x7F80_0000)
 }
 
-// The least of the `count` cells from `at`.
+// The smaller of two bit patterns, and `a` where they are equal.
+fn lower(a: u32, b: u32) -> u32
+    ensures { λ r. ⌜ r ≡ cond (ltb b a) b a ⌝ }
+{
+    if b < a { b } else { a }
+}
+
+// The least of the `count` cells from `at`, found among their bit patterns: patterns of path costs stand in the order of
+// the numbers, and of whole numbers the compiler compares several at once. The first is plus infinity's.
 fn least_of_run(v: &[f32], at: usize, count: usize) -> f32
-    requires { ⌜ at + count ≤ length (now v) ⌝ }
+    requires { ⌜ (at + count ≤ length (now v)) × All (UpTo 1027) (run count at (now v)) ⌝ }
     ensures { λ r. ⌜ r ≡ leastOf (run count at (now (v .entry))) ⌝ }
 {
-    let mut least = infinity();
+    let mut lowest: u32 = 0x7F80_0000;
     for k in 0..count {
-        least = smaller(least, v[at + k]);
+        lowest = lower(lowest, f32::to_bits(v[at + k]));
     }
-    least
+    f32::from_bits(lowest)
 }
 
 // One path cost: (cost + best) - least, where best is the least of the four ways.
@@ -114,6 +124,7 @@ pub fn path_pixel(
 )
     requires { ⌜ Runs (now v) prev at count × Runs (now v) cost at count ⌝ }
     requires { ⌜ 0 < count ⌝ }
+    requires { ⌜ All (UpTo 1027) (run count prev (now v)) ⌝ }
     ensures { λ _. ⌜ now (v .exit) ≡ put (now (v .entry)) at (stepVec p1 p2 (run count prev (now (v .entry))) (run count cost (now (v .entry)))) ⌝ }
 {
     let least = least_of_run(v, prev, count);

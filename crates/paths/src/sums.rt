@@ -1,6 +1,7 @@
 // The sums of the path costs of the eight directions.
 ghost use mathlib.Core.Path.{_≡_};
 ghost use Prim.Native.Nat.{_*_, _<_};
+ghost use Rattle.paths.specs.Bounds.{Bounded};
 ghost use Rattle.paths.specs.Room.{run, put, Room};
 ghost use Rattle.paths.specs.Walk.{pathVolume, pathSums, walkAlong, lastDirection};
 use crate::direction::Walk;
@@ -32,7 +33,7 @@ pub fn aggregate_sgm(
     p1: f32,
     p2: f32,
 )
-    requires { ⌜ (0 < count) × Room (now v) (w * h * count) costs paths sums ⌝ }
+    requires { ⌜ (0 < count) × Room (now v) (w * h * count) costs paths sums × Bounded p1 p2 (run (w * h * count) costs (now v)) ⌝ }
     ensures { λ _. ⌜ (let c = run (w * h * count) costs (now (v .entry)) in now (v .exit) ≡ put (put (now (v .entry)) paths (pathVolume (walkAlong w h count p1 p2 lastDirection) c)) sums (pathSums w h count p1 p2 c)) ⌝ }
 {
     let end = sums + w * h * count;

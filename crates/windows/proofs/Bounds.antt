@@ -8,8 +8,11 @@ use Rattle.windows.specs.Sums.{sumTo, sumRect}
 use Rattle.windows.proofs.Sums.{sumTo-bound}
 use Rattle.windows.proofs.Tables.{sumRect-bound}
 
--- the two terms of a covariance, and with b the same as a those of a variance
+-- the two terms of a covariance, and with b the same as a those of a variance; the sums themselves are smaller
 pub record Below53 (n : ℕ) (a b : ℕ → ℕ) : Type 0 where
+  pub few-a : sumTo n a < 2 ^ 32
+  pub few-b : sumTo n b < 2 ^ 32
+  pub few-products : sumTo n (λ i. a i * b i) < 2 ^ 32
   pub products : n * sumTo n (λ i. a i * b i) < 2 ^ 53
   pub levels : sumTo n a * sumTo n b < 2 ^ 53
 
@@ -21,6 +24,9 @@ window-fits n a b few la lb =
     let a-most : sumTo n a ≤ 961 * 255 = omega (arith, sumTo-bound 255 n a la) in
     let b-most : sumTo n b ≤ 961 * 255 = omega (arith, sumTo-bound 255 n b lb) in
     record {
+      few-a = omega arith;
+      few-b = omega arith;
+      few-products = omega arith;
       products = omega (arith, mul-le-mul few product-most);
       levels = omega (arith, mul-le-mul a-most b-most);
     }

@@ -1,5 +1,5 @@
-// Summed-area tables of a picture, the sum over a window from a table's four corners, and the variance and covariance of
-// windows, all as whole numbers (document 01, "Window sums").
+// Summed-area tables of a picture, the sum over a window from a table's four corners, and the variance of a
+// window, all as whole numbers (document 01, "Window sums").
 ghost use mathlib.Core.Path.{_≡_};
 ghost use Prim.Native.Nat.{ℕ, _+_, _*_, _^_, _≤_, _<_};
 ghost use lib.IntN.{pos, natAbs, _+ℤ_};
@@ -8,7 +8,7 @@ ghost use Rattle.options.specs.Limits.{sideMost, shiftMost};
 ghost use Rattle.lists.specs.Rows.{levelAt};
 ghost use Rattle.windows.specs.Table.{Sizes, RowReady, nextRow, tableOf, levelIn, squareAt, columnAt, crossIn, crossAt};
 ghost use Rattle.windows.specs.Window.{cornerSum, Corners};
-ghost use Rattle.windows.specs.Moments.{varianceOf, covarianceOf};
+ghost use Rattle.windows.specs.Moments.{varianceOf};
 use lists::clear_u64;
 
 fn wide(level: u8) -> u64
@@ -147,14 +147,4 @@ pub fn variance(n: u64, sum: u64, squares: u64) -> u64
     ensures { λ r. ⌜ r ≡ varianceOf n sum squares ⌝ }
 {
     n * squares - sum * sum
-}
-
-// n·Sab - Sa·Sb, of the sums and the sum of products of two windows of n levels.
-pub fn covariance(n: u64, sum_a: u64, sum_b: u64, products: u64) -> i64
-    requires { ⌜ (n * products < 2 ^ 53) × («sum_a» * «sum_b» < 2 ^ 53) ⌝ }
-    ensures { λ r. ⌜ r ≡ covarianceOf n «sum_a» «sum_b» products ⌝ }
-{
-    let all = (n * products) as i64;
-    let mean = (sum_a * sum_b) as i64;
-    all - mean
 }

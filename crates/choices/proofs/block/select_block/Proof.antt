@@ -1,92 +1,114 @@
 -- `choices::block::select_block` meets its contract. Assumes nothing.
-use Prim.Native.Nat.{ℕ, _≤_, _<_, _-_, _*_}
-use mathlib.Core.List.{List, _++_}
-use mathlib.Core.Path.{_≡_, refl, sym, _∙_}
+use Prim.Native.Nat.{_-_, _*_}
+use mathlib.Core.Path.{_≡_, refl, sym, _∙_, ap}
+use mathlib.Core.List.{map}
 use native.Mathlib.Omega.{arith}
-use lib.Ieee.{Float}
-use lib.ListN.{length, drop, length-set}
+use lib.ListN.{length}
 use denote.Ref.{now}
 use borrow.Author.Needs.{needs}
-use Rattle.choices.specs.declared.subpixel.Search.{Search}
-use Rattle.choices.specs.Block.{blockCell, blockMap}
-use Rattle.maps.specs.Cells.{inBuffer}
 use Rattle.lists.specs.Lists.{listOf}
-use Rattle.choices.specs.declared.block.Gates.{Gates}
-use Rattle.lists.proofs.Lists.{filled-next, filled-end, map-listOf}
+use Rattle.lists.proofs.Lists.{map-listOf}
+use Rattle.maps.specs.Cells.{inBuffer}
+use Rattle.choices.specs.Block.{blockCell, blockMap}
+use Rattle.choices.specs.RowChoice.{chosenAt}
+use Rattle.choices.proofs.MapRows.{bands, above-marked, below-marked, marked-first, marked-last}
 use Rattle.choices.proofs.block.select_block.Statement.{statement}
 use Rattle.choices.proofs.block.select_block.Tie as tie
 
--- what `out` holds at each pixel
-abbrev at-pixel : List Float → ℕ → ℕ → ℕ → Search → Gates → ℕ → Float
-at-pixel raw w h r search gates p = inBuffer (blockCell w h r search gates raw p)
-
-abbrev Inv-loop : tie.InvT-loop
-Inv-loop out₀ raw w h r search gates p₀ out p =
-    (p ≤ length out₀) × (length out ≡ length out₀) × (out ≡ listOf p (at-pixel raw w h r search gates) ++ drop p out₀)
-
-abbrev μ-loop : tie.MeasureT-loop
-μ-loop out₀ raw w h r search gates p₀ out p = length out₀ - p
-
-loop-holds : tie.Need-loop-holds Inv-loop μ-loop
-unfolding listOf
-loop-holds c = (search needs, refl, refl)
-
-block-cell-requires : tie.Need-block-cell-requires Inv-loop μ-loop
-block-cell-requires c κs =
-    let start = c .before .before .before .before in
-    let pre = start .pre in
-    (omega arith, (omega arith, (pre .1 .0, (pre .1 .1 .0, (pre .1 .1 .1 .0, pre .1 .1 .1 .1)))))
-
-stored-requires : tie.Need-stored-requires Inv-loop μ-loop
+stored-requires : tie.Need-stored-requires
 stored-requires c κs = search needs
 
-mul-out : tie.Need-mul-out Inv-loop μ-loop
-mul-out c = omega arith
+is-turned-requires : tie.Need-is-turned-requires
+is-turned-requires c κs = search needs
 
-slice-write-out : tie.Need-slice-write-out Inv-loop μ-loop
-slice-write-out c = omega arith
+mul-top : tie.Need-mul-top
+mul-top c = let z = bands (c .before .before .before .before .pre .1 .0) in omega arith
 
-add-p : tie.Need-add-p Inv-loop μ-loop
-add-p c = omega arith
+sub-bottom : tie.Need-sub-bottom
+sub-bottom c = search needs
 
-loop-less : tie.Need-loop-less Inv-loop μ-loop
-loop-less c = omega arith
+mul-bottom : tie.Need-mul-bottom
+mul-bottom c = let z = bands (c .before .before .before .before .pre .1 .0) in omega arith
 
-loop-again : tie.Need-loop-again Inv-loop μ-loop
-loop-again c =
-    let turn = c .before .before in
-    let inside : turn .before .loop .p < length (now (turn .before .before .before .before .args .out)) = omega arith in (
-      omega arith,
-      simp length-set (turn .before .loop .inv .1),
-      rw (turn .before .loop .inv .2, c .stored .ensures, c .before .block-cell .ensures) (filled-next _ _ _ _ inside refl),
+mul-end : tie.Need-mul-end
+mul-end c = search needs
+
+fill-first-requires : tie.Need-fill-first-requires
+fill-first-requires c κs = let start = c .before .before .before .before .before in let z = bands (start .pre .1 .0) in omega (arith, start .pre .0)
+
+choose-rows-requires : tie.Need-choose-rows-requires
+choose-rows-requires c κs =
+    let fill = c .before .before .before in
+    let turned = fill .before .before in
+    let mark = turned .before in
+    let start = mark .before .before .before in
+    let a = start .args in
+    let z = start .pre .1 .0 in (
+      z,
+      (
+        start .pre .1 .1,
+        (
+          fill .fill-first .kept .0 ∙ start .pre .0,
+          marked-first _ _ _ _ _ (fill .fill-first .ensures) (mark .stored .ensures)
+              (λ p l. above-marked (turned .is-turned .result) (a .w) (a .h) (a .r) (a .search) (a .gates) (now (a .raw)) p (bands z .some) l),
+        ),
+      ),
     )
 
-same-length : tie.Need-same-length Inv-loop μ-loop
-same-length c = c .before .loop .inv .1
+mul-fill-first : tie.Need-mul-fill-first
+mul-fill-first c = let z = bands (c .before .before .before .before .before .before .before .before .before .before .before .before .pre .1 .0) in omega arith
 
-returns : tie.Need-returns Inv-loop μ-loop
+sub-fill-first : tie.Need-sub-fill-first
+sub-fill-first c = bands (c .before .before .before .before .before .before .before .before .before .before .before .before .pre .1 .0) .bottom
+
+part-fill-first-start : tie.Need-part-fill-first-start
+part-fill-first-start c = bands (c .before .before .before .before .before .before .before .before .before .before .before .before .pre .1 .0) .bottom
+
+part-fill-first-end : tie.Need-part-fill-first-end
+part-fill-first-end c = search needs
+
+sub-fill-first-2 : tie.Need-sub-fill-first-2
+sub-fill-first-2 c = bands (c .before .before .before .before .before .before .before .before .before .before .before .before .before .pre .1 .0) .bottom
+
+fill-first-requires-2 : tie.Need-fill-first-requires-2
+fill-first-requires-2 c κs = search needs
+
+same-length : tie.Need-same-length
+same-length c = search needs
+
+returns : tie.Need-returns
 unfolding blockMap
 returns c =
-    let start = c .before .before .before .before in
+    let fill2 = c .before .before in
+    let rows = fill2 .before .before .before .before in
+    let fill = rows .before .before .before .before in
+    let turned = fill .before .before in
+    let mark = turned .before in
+    let start = mark .before .before .before in
     let a = start .args in
-    let past : c .before .loop .p ≡ a .w * a .h = omega arith in
-    c .before .loop .inv .2
-    ∙ filled-end _ _ _ _ past (start .pre .0)
-    ∙ sym (map-listOf _ _ _)
+    let z = start .pre .1 .0 in
+    marked-last (chosenAt (turned .is-turned .result) (a .w) (a .h) (a .r) (a .search) (a .gates) (now (a .raw))) _ _ _ _ _ (bands z .bottom)
+    (rows .choose-rows .kept .0 ∙ fill .fill-first .kept .0 ∙ start .pre .0) (rows .choose-rows .ensures) (fill2 .fill-first2 .ensures) (mark .stored .ensures)
+    (λ p l. below-marked (turned .is-turned .result) (a .w) (a .h) (a .r) (a .search) (a .gates) (now (a .raw)) p (bands z .some) l)
+    ∙ rw (turned .is-turned .ensures) (sym (map-listOf inBuffer _ _))
 
 pub select-block-spec : {M : Type 1} → statement M
 select-block-spec =
     tie.close
     (tie.spec
-    Inv-loop
-    μ-loop
-    loop-holds
-    block-cell-requires
     stored-requires
-    mul-out
-    slice-write-out
-    add-p
-    loop-less
-    loop-again
+    is-turned-requires
+    mul-top
+    sub-bottom
+    mul-bottom
+    mul-end
+    fill-first-requires
+    choose-rows-requires
+    mul-fill-first
+    sub-fill-first
+    part-fill-first-start
+    part-fill-first-end
+    sub-fill-first-2
+    fill-first-requires-2
     same-length
     returns)

@@ -1,12 +1,12 @@
--- `costs::tables::fill_picture` meets its contract: the loop's first i cells are roots, and the rest are squares. Assumes nothing.
+-- `costs::tables::fill_picture` meets its contract: the loop's first i cells of either table are sums and roots, and the rest are levels and squares. Assumes nothing.
 use Prim.Native.Nat.{_+_, _-_, _*_, _≤_, _<_}
 use mathlib.Core.Path.{_≡_, sym, _∙_}
 use native.Mathlib.Omega.{arith}
 use borrow.Author.Needs.{needs}
 use denote.Ref.{now}
-use lib.ListN.{length}
+use lib.ListN.{length, length-set}
 use Rattle.windows.specs.Window.{cells}
-use Rattle.costs.specs.Rooms.{Picture}
+use Rattle.costs.specs.Rooms.{Picture, Turning, Turned}
 use Rattle.costs.proofs.Turns.{TurnInv, turn-start, turn-length, turning, turn-again, turn-done}
 use Rattle.costs.proofs.tables.fill_picture.Statement.{statement}
 use Rattle.costs.proofs.tables.fill_picture.Tie as tie
@@ -68,36 +68,49 @@ loop-holds c =
     let z = c .before .before .before .before .before .before .before .before .before .before in
     turn-start _ _ _ _ _ _ _ (z .pre .cells-of) (c .before .before .before .before .before .before .fill-levels .ensures) (c .before .before .fill-squares .ensures)
 
-root-at-requires : tie.Need-root-at-requires Inv-loop μ-loop
-root-at-requires c κs =
-    let z = c .before .before .before .before .before .before .before .before .before .before .before .before .before in
-    let l = c .before .before .loop in
-    record {
-      pic = now (z .args .pic);
-      frame = z .pre .frame;
-      among = c .before .loop-test .taken;
-      held = turning _ _ _ _ _ _ (l .inv) (picture (c .before .before));
-    }
+-- the tables that are left from cell i on
+left-over : (c : tie.In-loop Inv-loop μ-loop) → Turning (c .before .loop .pair) (c .before .before .before .before .before .before .before .before .before .before .before .before .args .w) (c .before .before .before .before .before .before .before .before .before .before .before .before .args .h) (c .before .loop .i) (now (c .before .before .before .before .before .before .before .before .before .before .before .before .args .pic))
+left-over c = turning _ _ _ _ _ _ (c .before .loop .inv) (picture (c .before))
 
-add-pair : tie.Need-add-pair Inv-loop μ-loop
-add-pair c = omega (arith, length-of (c .before .before .before), c .before .before .before .before .before .before .before .before .before .before .before .before .before .before .good)
+held : (c : tie.In-loop Inv-loop μ-loop) → Turned (c .before .loop .pair) (c .before .before .before .before .before .before .before .before .before .before .before .before .args .w) (c .before .before .before .before .before .before .before .before .before .before .before .before .args .h) (c .before .before .before .before .before .before .before .before .before .before .before .before .args .r) (c .before .loop .i)
+held c =
+    let z = c .before .before .before .before .before .before .before .before .before .before .before .before in
+    record { pic = now (z .args .pic); frame = z .pre .frame; among = c .loop-test .taken; held = left-over c }
+
+sum-at-requires : tie.Need-sum-at-requires Inv-loop μ-loop
+sum-at-requires c κs = held (c .before)
+
+root-at-requires : tie.Need-root-at-requires Inv-loop μ-loop
+root-at-requires c κs = held (c .before .before .before)
+
+-- the cells that are written, and the next turn's number
+room : (c : tie.After-root-at Inv-loop μ-loop) → (cells (c .before .before .before .before .before .before .before .before .before .before .before .before .before .before .before .before .args .w) (c .before .before .before .before .before .before .before .before .before .before .before .before .before .before .before .before .args .h) + c .before .before .before .before .before .loop .i < length (c .before .before .before .before .before .loop .pair)) × (length (c .before .before .before .before .before .loop .pair) ≡ length (now (c .before .before .before .before .before .before .before .before .before .before .before .before .before .before .before .before .args .pair)))
+room c = (omega (arith, length-of (c .before .before .before .before .before), c .before .before .before .before .loop-test .taken), length-of (c .before .before .before .before .before) ∙ sym (c .before .before .before .before .before .before .before .before .before .before .before .before .before .before .before .before .pre .cells-of))
 
 mul-pair : tie.Need-mul-pair Inv-loop μ-loop
-mul-pair c = omega (arith, length-of (c .before .before .before), c .before .before .before .before .before .before .before .before .before .before .before .before .before .before .good)
+mul-pair c = omega (arith, room c, c .before .before .before .before .before .before .before .before .before .before .before .before .before .before .before .before .good)
 
 slice-write-pair : tie.Need-slice-write-pair Inv-loop μ-loop
-slice-write-pair c = omega (arith, length-of (c .before .before .before))
+slice-write-pair c = omega (arith, room c)
+
+add-pair : tie.Need-add-pair Inv-loop μ-loop
+add-pair c = omega (arith, room c, c .before .before .before .before .before .before .before .before .before .before .before .before .before .before .before .before .good)
+
+mul-pair-2 : tie.Need-mul-pair-2 Inv-loop μ-loop
+mul-pair-2 c = omega (arith, room c, c .before .before .before .before .before .before .before .before .before .before .before .before .before .before .before .before .good)
+
+slice-write-pair-2 : tie.Need-slice-write-pair-2 Inv-loop μ-loop
+slice-write-pair-2 c = rw length-set (omega (arith, room c))
 
 add-i : tie.Need-add-i Inv-loop μ-loop
-add-i c = omega (arith, length-of (c .before .before .before), c .before .before .before .before .before .before .before .before .before .before .before .before .before .before .good)
+add-i c = omega (arith, room c, c .before .before .before .before .before .before .before .before .before .before .before .before .before .before .before .before .good)
 
 loop-less : tie.Need-loop-less Inv-loop μ-loop
-loop-less c = omega arith
+loop-less c = omega (arith, c .before .before .before .before .loop-test .taken)
 
 loop-again : tie.Need-loop-again Inv-loop μ-loop
 loop-again c =
-    let l = c .before .before .before in
-    turn-again _ _ _ _ _ _ (l .loop .inv) (c .before .before .loop-test .taken) _ (c .root-at .ensures _ (turning _ _ _ _ _ _ (l .loop .inv) (picture l)))
+    turn-again _ _ _ _ _ _ (c .before .before .before .before .before .loop .inv) (c .before .before .before .before .loop-test .taken) _ _ (c .before .before .sum-at .ensures _ (left-over (c .before .before .before .before))) (c .root-at .ensures _ (left-over (c .before .before .before .before)))
 
 same-length : tie.Need-same-length Inv-loop μ-loop
 same-length c = turn-length _ _ _ _ _ _ (c .before .loop .inv) ∙ sym (c .before .before .before .before .before .before .before .before .before .before .before .before .pre .cells-of)
@@ -125,10 +138,13 @@ fill-picture-spec =
     part-fill-squares-end
     fill-squares-requires
     loop-holds
+    sum-at-requires
     root-at-requires
-    add-pair
     mul-pair
     slice-write-pair
+    add-pair
+    mul-pair-2
+    slice-write-pair-2
     add-i
     loop-less
     loop-again

@@ -4,7 +4,7 @@ use mathlib.Core.Path.{_≡_, ap, _∙_}
 use native.Mathlib.Nat.{mul-le-mul}
 use native.Mathlib.Omega.{arith}
 use Rattle.costs.specs.Raw.{pixels}
-use Rattle.costs.specs.Roots.{rootBits}
+use Rattle.costs.specs.Roots.{rootBits, rootIn}
 use Rattle.costs.proofs.Readings.{cells-most}
 use Rattle.costs.proofs.Turns.{column-in, row-in, no-column, no-row, levels-corners, squares-corners, squares-below, square-most, root-is}
 use Rattle.costs.proofs.tables.root_at.Statement.{statement}
@@ -32,7 +32,7 @@ add-if1 : tie.Need-add-if1
 add-if1 c = let z = c .before in omega (arith, column-in (z .args .w) (z .args .i))
 
 returns : tie.Need-returns
-returns c = λ pic t. no-column _ _ _ pic _ (c .if1 .taken)
+returns c = λ pic t. let z = c .before .before in no-column _ _ _ (rootIn (z .args .w) (z .args .r) pic) _ (c .if1 .taken)
 
 mul-if2 : tie.Need-mul-if2
 mul-if2 c = search needs
@@ -41,7 +41,7 @@ add-if2 : tie.Need-add-if2
 add-if2 c = let z = c .before .before in omega (arith, row-in (z .args .w) (z .args .h) (z .args .i) (z .pre .among), z .pre .frame)
 
 returns-2 : tie.Need-returns-2
-returns-2 c = λ pic t. no-row _ _ _ pic _ (c .before .if1 .left) (c .if2 .taken)
+returns-2 c = λ pic t. let z = c .before .before .before in no-row _ _ _ (rootIn (z .args .w) (z .args .r) pic) _ (c .before .if1 .left) (c .if2 .taken)
 
 mul-n : tie.Need-mul-n
 mul-n c = search needs

@@ -1,16 +1,29 @@
 -- `matching::direction::solve_semi_global` meets its contract. Assumes nothing.
 use denote.Ref.{now}
-use Prim.Native.Nat.{_*_}
-use mathlib.Core.Path.{_≡_, sym, ap, _∙_}
+use Prim.Native.Nat.{ℕ, _*_, _≤_}
+use mathlib.Core.Path.{_≡_, sym, ap, _∙_, subst}
+use mathlib.Core.List.{List}
 use native.Mathlib.Omega.{arith}
+use lib.Ieee.{Float}
 use lib.ListN.{length}
-use Rattle.matching.specs.Maps.{countOf}
+use Rattle.costs.specs.Rooms.{Picture}
+use Rattle.paths.specs.Bounds.{Bounded}
+use Rattle.paths.specs.Cost.{matchingCosts}
+use Rattle.matching.specs.Maps.{countOf, volumeOf}
 use Rattle.matching.specs.Fit.{cellsIn}
-use Rattle.matching.proofs.ThirdVolume.{volume-length, third-length, third-kept, second-length, semi-done}
+use Rattle.matching.proofs.ThirdVolume.{volume-length, third-length, third-kept, third-in, second-length, semi-done, costs-done}
 use Rattle.matching.proofs.Fitting.{ready, semi-sizes}
+use Rattle.matching.proofs.Turns.{bounded}
 use borrow.Author.Needs.{needs}
 use Rattle.matching.proofs.direction.solve_semi_global.Statement.{statement}
 use Rattle.matching.proofs.direction.solve_semi_global.Tie as tie
+
+-- the two pictures' bytes, as the slices have them
+left-picture : (c : tie.After-shared-slice-known) → Picture (c .before .args .w) (c .before .args .h) (now (c .before .args .left))
+left-picture c = record { bytes = c .before .pre .0 .volume .sizes .a-bytes; small = λ i. omega (arith, c .shared-slice-known .given i) }
+
+right-picture : (c : tie.After-shared-slice-known2) → Picture (c .before .before .args .w) (c .before .before .args .h) (now (c .before .before .args .right))
+right-picture c = record { bytes = c .before .before .pre .0 .volume .sizes .b-bytes; small = λ i. omega (arith, c .shared-slice-known2 .given i) }
 
 search-of-requires : tie.Need-search-of-requires
 search-of-requires c κs = search needs
@@ -49,9 +62,14 @@ sum-paths-requires c κs =
     let z = c .before .before .before .before .before .before .before .before .before .before .before .before .before .before in
     let v = c .before .before .before .before .before .volume-of in
     let f = ready (z .pre .0) in
+    let n = cellsIn (z .args .w) (z .args .h) (z .args .opts) in
     let long = ap length (v .ensures .0) ∙ volume-length (z .args .w) (z .args .h) (z .args .opts) (z .args .side) (now (z .args .left)) (now (z .args .right)) in
-    rw (c .before .before .before .before .before .before .before .before .search-of .ensures)
-    record { wide = f .wide; high = f .high; some = z .pre .0 .some; few = f .few; cells = third-kept (cellsIn (z .args .w) (z .args .h) (z .args .opts)) (now (z .args .room)) (z .pre .1) (v .last .1 .1 .1 .1 .1 .1 .0) long }
+    let kept = third-kept n (now (z .args .room)) (z .pre .1) (v .last .1 .1 .1 .1 .1 .1 .0) long in
+    let held = third-in n (now (z .args .room)) (z .pre .1) (v .last .1 .1 .1 .1 .1 .1 .0) long ∙ v .ensures .0 in
+    rw (c .before .before .before .before .before .before .before .before .search-of .ensures) (
+      record { wide = f .wide; high = f .high; some = z .pre .0 .some; few = f .few; cells = kept },
+      subst (λ (l : List Float). Bounded (z .args .opts .«sgm_p1») (z .args .opts .«sgm_p2») (matchingCosts (z .args .w * z .args .h) (countOf (z .args .opts)) l)) (sym held) (bounded (z .pre .0) (left-picture (c .before .before .before .before .before .before .before .before .before .before .before .before .before)) (right-picture (c .before .before .before .before .before .before .before .before .before .before .before .before)) (z .args .side) (z .pre .2)),
+    )
 
 mul-select-sgm : tie.Need-mul-select-sgm
 mul-select-sgm c = let z = c .before .before .before .before .before .before .before .before .before .before .before .before .before .before .before .before .before .before in rw (c .before .before .before .before .before .before .before .before .before .before .before .before .search-of .ensures) (omega (arith, semi-sizes (z .pre .0), z .pre .1))
@@ -71,7 +89,7 @@ select-sgm-requires c κs =
     let f = ready (z .pre .0) in
     let s = c .before .before .before .before .before .before .before .before .before .before .before .before .before .before .before .search-of in
     let p = c .before .before .before .before .before .before .sum-paths in
-    (f .out, ((f .across, f .down), (second-length (z .args .w) (z .args .h) (s .result .count) _ (p .kept .0 ∙ sum-paths-requires (c .before .before .before .before .before .before .before) (p .lifetimes) .cells), (rw (s .ensures) (f .first), rw (s .ensures) (f .few)))))
+    (f .out, ((f .across, f .down), (second-length (z .args .w) (z .args .h) (s .result .count) _ (p .kept .0 ∙ sum-paths-requires (c .before .before .before .before .before .before .before) (p .lifetimes) .0 .cells), (rw (s .ensures) (f .first), rw (s .ensures) (f .few)))))
 
 same-length : tie.Need-same-length
 same-length c = search needs
@@ -85,9 +103,12 @@ same-length-3 c = search needs
 returns : tie.Need-returns
 returns c =
     let z = c .before .before .before .before .before .before .before .before .before .before .before .before .before .before .before .before .before .before .before .before .before .before .before .before in
-    let v = c .before .before .before .before .before .before .before .before .before .before .before .before .before .before .before .volume-of in (
-      semi-done (z .args .w) (z .args .h) (z .args .opts) (z .args .side) (now (z .args .left)) (now (z .args .right)) _ (now (z .args .room)) _ _ _ (c .before .before .before .before .before .before .before .before .before .before .before .before .before .before .before .before .before .before .search-of .ensures) (z .pre .1) (v .ensures .0) (c .before .before .before .before .before .before .before .before .before .sum-paths .ensures) (c .before .before .select-sgm .ensures),
+    let v = c .before .before .before .before .before .before .before .before .before .before .before .before .before .before .before .volume-of in
+    let s = c .before .before .before .before .before .before .before .before .before .before .before .before .before .before .before .before .before .before .search-of in
+    let p = c .before .before .before .before .before .before .before .before .before .sum-paths in (
+      semi-done (z .args .w) (z .args .h) (z .args .opts) (z .args .side) (now (z .args .left)) (now (z .args .right)) _ (now (z .args .room)) _ _ _ (s .ensures) (z .pre .1) (v .ensures .0) (p .ensures .0) (c .before .before .select-sgm .ensures),
       v .ensures .1,
+      costs-done (z .args .w) (z .args .h) (z .args .opts) (z .args .side) (now (z .args .left)) (now (z .args .right)) _ (now (z .args .room)) _ _ (s .ensures) (z .pre .1) (v .ensures .0) (p .ensures .1),
     )
 
 pub solve-semi-global-spec : {M : Type 1} → statement M

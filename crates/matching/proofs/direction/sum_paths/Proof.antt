@@ -1,27 +1,49 @@
 -- `matching::direction::sum_paths` meets its contract. Assumes nothing.
-use denote.Ref.{now}
+use Prim.Native.Nat.{_+_, _*_, _≤_}
+use mathlib.Core.Path.{_≡_, sym, ap, _∙_, subst}
+use mathlib.Core.List.{List}
 use native.Mathlib.Omega.{arith}
+use denote.Ref.{now}
+use lib.Ieee.{Float}
 use lib.ListN.{length}
+use Rattle.paths.specs.Bounds.{Bounded}
+use Rattle.paths.specs.Cost.{matchingCosts}
+use Rattle.paths.specs.Room.{run}
+use Rattle.paths.specs.Walk.{pathSums}
 use Rattle.paths.proofs.Walks.{volume-length}
-use Rattle.matching.proofs.SumPaths.{area-most, volume-most, raw-runs, room-of, costs-kept, costs-long, sums-in}
+use Rattle.matching.proofs.SumPaths.{costs-length, area-most, volume-most, raw-runs, costs-first, put-kept, put-in, sums-at, costs-at}
 use borrow.Author.Needs.{needs}
 use Rattle.matching.proofs.direction.sum_paths.Statement.{statement}
 use Rattle.matching.proofs.direction.sum_paths.Tie as tie
 
+-- the matching costs are put at the room's beginning
+kept : (c : tie.After-fill-costs) → length (c .fill-costs .last .0) ≡ length (now (c .before .before .before .args .room))
+kept c =
+    let z = c .before .before .before in
+    put-kept (z .args .w) (z .args .h) (z .args .count) (now (z .args .room)) (z .pre .0) 0 (matchingCosts (z .args .w * z .args .h) (z .args .count) (run (z .args .count * (z .args .w * z .args .h)) (2 * (z .args .count * (z .args .w * z .args .h))) (now (z .args .room)))) _ (costs-length (z .args .w * z .args .h) (z .args .count) _) (raw-runs (z .args .w) (z .args .h) (z .args .count) (now (z .args .room)) (z .pre .0) .b-in) (c .fill-costs .ensures)
+
+held : (c : tie.After-fill-costs) → run (c .before .before .before .args .w * c .before .before .before .args .h * c .before .before .before .args .count) 0 (c .fill-costs .last .0) ≡ matchingCosts (c .before .before .before .args .w * c .before .before .before .args .h) (c .before .before .before .args .count) (run (c .before .before .before .args .count * (c .before .before .before .args .w * c .before .before .before .args .h)) (2 * (c .before .before .before .args .count * (c .before .before .before .args .w * c .before .before .before .args .h))) (now (c .before .before .before .args .room)))
+held c =
+    let z = c .before .before .before in
+    put-in (z .args .w) (z .args .h) (z .args .count) (now (z .args .room)) (z .pre .0) 0 _ _ (costs-length (z .args .w * z .args .h) (z .args .count) _) (raw-runs (z .args .w) (z .args .h) (z .args .count) (now (z .args .room)) (z .pre .0) .b-in) (c .fill-costs .ensures)
+
 mul-area : tie.Need-mul-area
-mul-area c = let z = c .before in omega (arith, area-most (z .args .w) (z .args .h) (z .args .count) (z .args .p1) (z .args .p2) (now (z .args .room)) (z .pre))
+mul-area c = let z = c .before in omega (arith, area-most (z .args .w) (z .args .h) (z .args .count) (now (z .args .room)) (z .pre .0))
 
 mul-one : tie.Need-mul-one
-mul-one c = search needs
+mul-one c = let z = c .before in omega (arith, volume-most (z .args .w) (z .args .h) (z .args .count) (now (z .args .room)) (z .pre .0))
 
 mul-two : tie.Need-mul-two
-mul-two c = search needs
+mul-two c = let z = c .before in omega (arith, volume-most (z .args .w) (z .args .h) (z .args .count) (now (z .args .room)) (z .pre .0))
 
 fill-costs-requires : tie.Need-fill-costs-requires
-fill-costs-requires c κs = let z = c .before .before in raw-runs (z .args .w) (z .args .h) (z .args .count) (z .args .p1) (z .args .p2) (now (z .args .room)) (z .pre)
+fill-costs-requires c κs = let z = c .before .before in raw-runs (z .args .w) (z .args .h) (z .args .count) (now (z .args .room)) (z .pre .0)
 
 aggregate-sgm-requires : tie.Need-aggregate-sgm-requires
-aggregate-sgm-requires c κs = let z = c .before .before .before .before .before .before in (omega (arith, z .pre .some), room-of (z .args .w) (z .args .h) (z .args .count) (z .args .p1) (z .args .p2) (now (z .args .room)) (z .pre) _ (costs-kept (z .args .w) (z .args .h) (z .args .count) (z .args .p1) (z .args .p2) (now (z .args .room)) (z .pre) _ (c .before .before .before .fill-costs .ensures)))
+aggregate-sgm-requires c κs =
+    let z = c .before .before .before .before .before .before in
+    let f = c .before .before .before in
+    (omega (arith, z .pre .0 .some), costs-first (z .args .w) (z .args .h) (z .args .count) (now (z .args .room)) (z .pre .0) _ (kept f), subst (λ (l : List Float). Bounded (z .args .p1) (z .args .p2) l) (sym (held f)) (z .pre .1))
 
 same-length : tie.Need-same-length
 same-length c = search needs
@@ -29,9 +51,13 @@ same-length c = search needs
 returns : tie.Need-returns
 returns c =
     let z = c .before .before .before .before .before .before .before .before .before in
-    let f = c .before .before .before .before .before .before .fill-costs in
+    let f = c .before .before .before .before .before .before in
     let a = c .before .before .aggregate-sgm in
-    sums-in (z .args .w) (z .args .h) (z .args .count) (z .args .p1) (z .args .p2) (now (z .args .room)) (z .pre) _ (f .ensures) _ _ (volume-length _ _ (costs-long (z .args .w) (z .args .h) (z .args .count) (z .args .p1) (z .args .p2) (now (z .args .room)) (z .pre) _ (f .ensures))) (a .ensures)
+    let room = costs-first (z .args .w) (z .args .h) (z .args .count) (now (z .args .room)) (z .pre .0) _ (kept f) in
+    let long = volume-length _ _ (ap length (held f) ∙ costs-length (z .args .w * z .args .h) (z .args .count) _) in (
+      sums-at (z .args .w) (z .args .h) (z .args .count) (z .args .p1) (z .args .p2) _ _ _ _ room _ _ long (a .ensures) ∙ ap (pathSums (z .args .w) (z .args .h) (z .args .count) (z .args .p1) (z .args .p2)) (held f),
+      costs-at (z .args .w) (z .args .h) (z .args .count) (z .args .p1) (z .args .p2) _ _ _ _ room _ _ long (a .ensures) ∙ held f,
+    )
 
 pub sum-paths-spec : {M : Type 1} → statement M
 sum-paths-spec =

@@ -3,13 +3,10 @@ use denote.Ref.{now}
 use Prim.Native.Nat.{_+_, _*_, _-_, _≤_}
 use mathlib.Core.Path.{_≡_, sym, ap, _∙_}
 use native.Mathlib.Omega.{arith}
-use lib.ListN.{length, replicate}
-use mathlib.Core.Bool.{false}
-use lib.IntN.{pos}
-use lib.Ieee.{fin}
-use lib.ListN.{drop}
-use Rattle.matching.specs.Fit.{sideCells}
-use Rattle.matching.proofs.Tail.{front-length, room-after, tail-put}
+use lib.ListN.{length, take, drop}
+use Rattle.matching.specs.Fit.{cellsIn, sideCells}
+use Rattle.matching.proofs.Tail.{front-length, room-after, tail-put, front-after, front-put}
+use Rattle.matching.proofs.Fitting.{volume-first}
 use borrow.Author.Needs.{needs}
 use Rattle.matching.proofs.solve.keep_right.Statement.{statement}
 use Rattle.matching.proofs.solve.keep_right.Tie as tie
@@ -68,9 +65,12 @@ returns c =
     let long = d .kept .1 .1 .1 .1 .1 .1 .1 .1 .0 ∙ front-length k (now (z .args .room)) l in
     let out = d .kept .1 .1 .1 .1 .1 .1 .0 ∙ z .pre .0 .out-cells in
     let back : z .args .w * z .args .h ≡ e - k = omega (arith, z .pre .1) in
-    let room = room-after k (now (z .args .room)) l (d .last .1 .1 .1 .1 .1 .1 .1 .1 .0) long in (
+    let part = d .last .1 .1 .1 .1 .1 .1 .1 .1 .0 in
+    let room = room-after k (now (z .args .room)) l part long in
+    let few : cellsIn (z .args .w) (z .args .h) (z .args .opts) ≤ k = omega (arith, same, volume-first (z .args .w) (z .args .h) (z .args .opts)) in (
       rw same (tail-put k e _ (p .last .0) l room (ap length (p .ensures) ∙ out ∙ back)) ∙ p .ensures ∙ d .ensures .0,
       d .ensures .1,
+      front-put _ k e _ (p .last .0) few (omega (arith, room)) ∙ front-after k (now (z .args .room)) l part long _ few ∙ d .ensures .2,
     )
 
 pub keep-right-spec : {M : Type 1} → statement M

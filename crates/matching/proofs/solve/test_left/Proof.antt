@@ -1,16 +1,19 @@
 -- `matching::solve::test_left` meets its contract. Assumes nothing.
 use denote.Ref.{now}
-use Prim.Native.Nat.{_+_, _*_, _-_, _≤_}
-use mathlib.Core.Path.{_≡_, sym, ap, _∙_}
+use Prim.Native.Nat.{ℕ, _+_, _*_, _-_, _≤_}
+use mathlib.Core.Path.{_≡_, sym, ap, _∙_, subst}
+use native.Mathlib.Nat.{sub-zero}
 use native.Mathlib.Omega.{arith}
-use lib.ListN.{length, replicate}
 use mathlib.Core.Bool.{false}
+use mathlib.Core.List.{List}
 use lib.IntN.{pos}
-use lib.Ieee.{fin}
-use lib.ListN.{drop}
+use lib.Ieee.{Float, fin}
+use lib.ListN.{length, take, drop, replicate}
 use Rattle.choices.specs.LeftRight.{leftRight}
-use Rattle.matching.specs.Fit.{sideCells}
+use Rattle.matching.specs.Fit.{cellsIn, sideCells, Kept}
 use Rattle.matching.proofs.Tail.{front-length, room-after, tail-after, tail-lent}
+use Rattle.matching.proofs.Turns.{kept-front}
+use Rattle.matching.proofs.Fitting.{volume-first}
 use borrow.Author.Needs.{needs}
 use Rattle.matching.proofs.solve.test_left.Statement.{statement}
 use Rattle.matching.proofs.solve.test_left.Tie as tie
@@ -21,17 +24,24 @@ mul-kept c = search needs
 sub-kept : tie.Need-sub-kept
 sub-kept c = search needs
 
-sub-solve-direction : tie.Need-sub-solve-direction
-sub-solve-direction c = search needs
+sub-turn-direction : tie.Need-sub-turn-direction
+sub-turn-direction c = search needs
 
-part-solve-direction-start : tie.Need-part-solve-direction-start
-part-solve-direction-start c = search needs
+part-turn-direction-start : tie.Need-part-turn-direction-start
+part-turn-direction-start c = search needs
 
-part-solve-direction-end : tie.Need-part-solve-direction-end
-part-solve-direction-end c = search needs
+part-turn-direction-end : tie.Need-part-turn-direction-end
+part-turn-direction-end c = search needs
 
-solve-direction-requires : tie.Need-solve-direction-requires
-solve-direction-requires c κs = search needs
+turn-direction-requires : tie.Need-turn-direction-requires
+turn-direction-requires c κs =
+    let z = c .before .before .before .before in
+    let t = z .pre .0 in
+    let e = length (now (z .args .room)) in
+    let k = e - z .args .w * z .args .h in
+    let same : sideCells (z .args .w) (z .args .h) (z .args .opts) ≡ k = omega (arith, z .pre .1) in
+    let few : cellsIn (z .args .w) (z .args .h) (z .args .opts) ≤ k = omega (arith, volume-first (z .args .w) (z .args .h) (z .args .opts)) in
+    (record { left = t .left; right = t .right; wholeLength = t .wholeLength; fit = t .fit; kept = kept-front (t .kept) k few }, front-length k (now (z .args .room)) (omega arith) ∙ sym same)
 
 mul-left-right : tie.Need-mul-left-right
 mul-left-right c = search needs
@@ -57,22 +67,19 @@ same-length c = search needs
 same-length-2 : tie.Need-same-length-2
 same-length-2 c = search needs
 
-same-length-3 : tie.Need-same-length-3
-same-length-3 c = search needs
-
 returns : tie.Need-returns
 returns c =
-    let z = c .before .before .before .before .before .before .before .before .before .before .before .before .before .before .before .before .before .before .before .before .before .before .before .before .before in
-    let d = c .before .before .before .before .before .before .before .before .before .before .before .before .before .before .before .before .solve-direction in
+    let z = c .before .before .before .before .before .before .before .before .before .before .before .before .before .before .before .before .before .before .before in
+    let d = c .before .before .before .before .before .before .before .before .before .before .before .before .before .before .turn-direction in
     let e = length (now (z .args .room)) in
     let k = e - z .args .w * z .args .h in
     let l : k ≤ e = omega arith in
     let same : sideCells (z .args .w) (z .args .h) (z .args .opts) ≡ k = omega (arith, z .pre .1) in
-    let part = d .last .1 .1 .1 .1 .1 .1 .1 .1 .0 in
-    let long = d .kept .1 .1 .1 .1 .1 .1 .1 .1 .0 ∙ front-length k (now (z .args .room)) l in
+    let few : cellsIn (z .args .w) (z .args .h) (z .args .opts) ≤ k = omega (arith, volume-first (z .args .w) (z .args .h) (z .args .opts)) in
+    let part = d .last .1 .0 in
+    let long = d .kept .1 .0 ∙ front-length k (now (z .args .room)) l in
     let room = room-after k (now (z .args .room)) l part long in (
-      c .before .before .before .before .before .before .left-right .ensures ∙ rw (d .ensures .0, tail-lent k e _ room, tail-after k (now (z .args .room)) l part long, same),
-      d .ensures .1,
+      (λ left right q. c .before .before .before .before .before .before .left-right .ensures ∙ rw (d .ensures left right (kept-front q k few), tail-lent k e _ room, tail-after k (now (z .args .room)) l part long, same)),
       c .before .before .clear-f32 .ensures ∙ ap (λ n. replicate n (fin false 0 (pos 0))) room,
     )
 
@@ -82,10 +89,10 @@ test-left-spec =
     (tie.spec
     mul-kept
     sub-kept
-    sub-solve-direction
-    part-solve-direction-start
-    part-solve-direction-end
-    solve-direction-requires
+    sub-turn-direction
+    part-turn-direction-start
+    part-turn-direction-end
+    turn-direction-requires
     mul-left-right
     sub-left-right
     part-left-right-start
@@ -94,5 +101,4 @@ test-left-spec =
     clear-f32-requires
     same-length
     same-length-2
-    same-length-3
     returns)

@@ -1,10 +1,10 @@
--- `paths::cost::fill_costs` meets its contract: after p turns the costs of p pixels are filled. Assumes nothing.
-use Prim.Native.Nat.{_-_, _*_, _≤_}
-use mathlib.Core.Path.{_≡_, _∙_}
-use native.Mathlib.Nat.{zero-mul}
-use native.Mathlib.Omega.{arith}
+-- `paths::cost::fill_costs` meets its contract: before the turn of pixel p the costs of the pixels below p are filled. Assumes nothing.
 use borrow.Author.Needs.{needs}
 use denote.Ref.{now}
+use Prim.Native.Nat.{_-_, _*_, _≤_}
+use mathlib.Core.Path.{_≡_}
+use native.Mathlib.Nat.{zero-mul}
+use native.Mathlib.Omega.{arith}
 use lib.Seq.{paste, paste-zero}
 use Rattle.paths.specs.Cost.{matchingCosts}
 use Rattle.paths.specs.Room.{run}
@@ -27,14 +27,17 @@ loop-holds c =
     let all = matchingCosts (a .area) (a .count) (run (a .count * a .area) (a .raw) (now (a .v))) in
     (omega arith, rw zero-mul (paste-zero (now (a .v)) (a .costs) all))
 
-fill-pixel-requires : tie.Need-fill-pixel-requires Inv-loop μ-loop
-fill-pixel-requires c κs =
-    let d = c .before in
+taken-from-requires : tie.Need-taken-from-requires Inv-loop μ-loop
+taken-from-requires c κs = search needs
+
+fill-pixels-requires : tie.Need-fill-pixels-requires Inv-loop μ-loop
+fill-pixels-requires c κs =
+    let d = c .before .before in
     let s = start d in
     let a = s .args in
     let l = d .before .loop in
     let long = filled-length (a .area) (a .count) (s .pre) (l .v) (l .p) (l .inv .0) (l .inv .1) in
-    (d .loop-test .taken, record { a-in = omega (arith, s .pre .a-in); b-in = omega (arith, s .pre .b-in); apart = s .pre .apart })
+    (c .before .taken-from .ensures .1, record { a-in = omega (arith, s .pre .a-in); b-in = omega (arith, s .pre .b-in); apart = s .pre .apart })
 
 add-p : tie.Need-add-p Inv-loop μ-loop
 add-p c = search needs
@@ -44,10 +47,12 @@ loop-less c = search needs
 
 loop-again : tie.Need-loop-again Inv-loop μ-loop
 loop-again c =
-    let d = c .before .before .before .before in
+    let e = c .before .before .before .before in
+    let d = e .before in
     let s = start d in
     let l = d .before .loop in
-    (omega (arith, d .loop-test .taken), costs-turn (s .args .area) (s .args .count) (s .pre) (l .v) (l .p) (d .loop-test .taken) (l .inv .1) (c .before .before .fill-pixel .last .0) (c .before .before .fill-pixel .ensures))
+    let fill = c .before .before .fill-pixels in
+    (omega arith, costs-turn (s .args .area) (s .args .count) (s .pre) (l .v) (l .p) (e .taken-from .result) (e .taken-from .ensures .1) (l .inv .1) (fill .last .0) (fill .ensures))
 
 same-length : tie.Need-same-length Inv-loop μ-loop
 same-length c =
@@ -58,9 +63,8 @@ same-length c =
 returns : tie.Need-returns Inv-loop μ-loop
 returns c =
     let s = c .before .before .before in
-    let a = s .args in
-    let last : c .before .loop .p ≡ a .area = omega (arith, c .before .loop .inv .0, c .loop-test .left) in
-    rw last at (c .before .loop .inv .1) ∙ costs-done (a .area) (a .count) (s .pre)
+    let l = c .before .loop in
+    costs-done (s .args .area) (s .args .count) (s .pre) (l .v) (l .p) (omega (arith, l .inv .0, c .loop-test .left)) (l .inv .1)
 
 pub fill-costs-spec : {M : Type 1} → statement M
 fill-costs-spec =
@@ -69,7 +73,8 @@ fill-costs-spec =
     Inv-loop
     μ-loop
     loop-holds
-    fill-pixel-requires
+    taken-from-requires
+    fill-pixels-requires
     add-p
     loop-less
     loop-again

@@ -1,62 +1,59 @@
 -- `paths::direction::previous` meets its contract: one step back on the line and on the column. Assumes nothing.
-use Prim.Native.Nat.{_+_, _*_, _/_, _%_, _<_}
+use Prim.Native.Nat.{ℕ, _+_, _*_, _/_, _%_, _<_}
 use mathlib.Core.Path.{_≡_, sym, ap, _∙_}
-use native.Mathlib.Nat.{mod-lt}
 use native.Mathlib.Omega.{arith}
 use borrow.Author.Needs.{needs}
 use lib.IntN.{ℤ}
-use Rattle.lists.proofs.Rows.{pixel-in, mul-pos-left, row-below}
+use Rattle.lists.proofs.Rows.{in-column, in-row, pixel-in}
 use Rattle.paths.specs.declared.direction.Place.the-variants.{At}
 use Rattle.paths.specs.Walk.{stepBack}
 use Rattle.paths.proofs.Places.{unit-same, unit-back, back-in, no-column, no-row, both-places}
 use Rattle.paths.proofs.direction.previous.Statement.{statement}
 use Rattle.paths.proofs.direction.previous.Tie as tie
 
-wide : (s : tie.Start) → 0 < s .args .walk .w
-wide s = mul-pos-left (s .args .p) (s .args .walk .w) (s .args .walk .h) (s .pre .1)
+-- the pixel's number
+abbrev pixel : tie.Start → ℕ
+pixel s = s .args .y * s .args .walk .w + s .args .x
 
 -- what the two calls found
-column : (c : tie.After-step-back) → let a = c .before .before .args in c .step-back .result ≡ stepBack (a .walk .w) (a .walk .dx) (a .p % a .walk .w)
-column c =
+at-column : (c : tie.After-step-back) → let s = c .before .before in c .step-back .result ≡ stepBack (s .args .walk .w) (s .args .walk .dx) (pixel s % s .args .walk .w)
+at-column c =
     let s = c .before .before in
     let k = s .args .walk in
-    c .step-back .ensures ∙ ap (λ (d : ℤ). stepBack (k .w) d (s .args .p % k .w)) (unit-same (k .dx) (s .pre .0 .column))
+    rw (in-column (k .w) (s .args .x) (s .args .y) (s .pre .1)) (c .step-back .ensures ∙ ap (λ (d : ℤ). stepBack (k .w) d (s .args .x)) (unit-same (k .dx) (s .pre .0 .column)))
 
 abbrev start : tie.After-step-back2 → tie.Start
 start c = c .before .before .before .before .before .before .before
 
-line : (c : tie.After-step-back2) → let a = start c .args in c .step-back2 .result ≡ stepBack (a .walk .h) (a .walk .dy) (a .p / a .walk .w)
-line c =
+at-row : (c : tie.After-step-back2) → let s = start c in c .step-back2 .result ≡ stepBack (s .args .walk .h) (s .args .walk .dy) (pixel s / s .args .walk .w)
+at-row c =
     let s = start c in
     let k = s .args .walk in
-    c .step-back2 .ensures ∙ ap (λ (d : ℤ). stepBack (k .h) d (s .args .p / k .w)) (unit-same (k .dy) (s .pre .0 .row))
+    rw (in-row (k .w) (s .args .x) (s .args .y) (s .pre .1)) (c .step-back2 .ensures ∙ ap (λ (d : ℤ). stepBack (k .h) d (s .args .y)) (unit-same (k .dy) (s .pre .0 .row)))
 
-at-x : (c : tie.After-x) → let a = c .before .before .before .before .args in stepBack (a .walk .w) (a .walk .dx) (a .p % a .walk .w) ≡ At (c .x .given .0 .0)
-at-x c = sym (column (c .before .before)) ∙ c .x .given .1
+found-column : (c : tie.After-column) → let s = c .before .before .before .before in stepBack (s .args .walk .w) (s .args .walk .dx) (pixel s % s .args .walk .w) ≡ At (c .column .given .0 .0)
+found-column c = sym (at-column (c .before .before)) ∙ c .column .given .1
 
 -- the column, where the row is found
-abbrev left : tie.After-y → tie.After-x
+abbrev left : tie.After-row → tie.After-column
 left c = c .before .before .before .before .before
 
-at-y : (c : tie.After-y) → let a = start (c .before .before) .args in stepBack (a .walk .h) (a .walk .dy) (a .p / a .walk .w) ≡ At (c .y .given .0 .0)
-at-y c = sym (line (c .before .before)) ∙ c .y .given .1
+found-row : (c : tie.After-row) → let s = start (c .before .before) in stepBack (s .args .walk .h) (s .args .walk .dy) (pixel s / s .args .walk .w) ≡ At (c .row .given .0 .0)
+found-row c = sym (at-row (c .before .before)) ∙ c .row .given .1
 
-in-picture : (c : tie.After-y) → let k = start (c .before .before) .args .walk in c .y .given .0 .0 * k .w + left c .x .given .0 .0 < k .w * k .h
+in-picture : (c : tie.After-row) → let k = start (c .before .before) .args .walk in c .row .given .0 .0 * k .w + left c .column .given .0 .0 < k .w * k .h
 in-picture c =
-    let a = start (c .before .before) .args in
-    let k = a .walk in
-    let x = left c .x .given .0 .0 in
-    let y = c .y .given .0 .0 in
-    pixel-in (k .w) (k .h) x y (back-in (k .w) (a .p % k .w) (k .dx) x (at-x (left c))) (back-in (k .h) (a .p / k .w) (k .dy) y (at-y c))
-
-rem-step-back : tie.Need-rem-step-back
-rem-step-back c = wide c
+    let s = start (c .before .before) in
+    let k = s .args .walk in
+    let x = left c .column .given .0 .0 in
+    let y = c .row .given .0 .0 in
+    pixel-in (k .w) (k .h) x y (back-in (k .w) (pixel s % k .w) (k .dx) x (found-column (left c))) (back-in (k .h) (pixel s / k .w) (k .dy) y (found-row c))
 
 step-back-requires : tie.Need-step-back-requires
-step-back-requires c κs = let s = c .before in (unit-back (s .args .walk .dx) (s .pre .0 .column), mod-lt (s .args .p) (wide s))
+step-back-requires c κs = let s = c .before in (unit-back (s .args .walk .dx) (s .pre .0 .column), s .pre .1)
 
-enum-known-x : tie.Need-enum-known-x
-enum-known-x c = search needs
+enum-known-column : tie.Need-enum-known-column
+enum-known-column c = search needs
 
 enum-told : tie.Need-enum-told
 enum-told c = search needs
@@ -64,20 +61,14 @@ enum-told c = search needs
 returns : tie.Need-returns
 returns c =
     let d = c .before .before in
-    let a = d .before .before .args in
-    sym (no-column (a .walk) (a .p) (sym (column d) ∙ c .enum-told .given .1))
-
-div-step-back : tie.Need-div-step-back
-div-step-back c = wide (c .before .before .before .before .before)
+    let s = d .before .before in
+    sym (no-column (s .args .walk) (pixel s) (sym (at-column d) ∙ c .enum-told .given .1))
 
 step-back-requires-2 : tie.Need-step-back-requires-2
-step-back-requires-2 c κs =
-    let s = c .before .before .before .before .before .before in
-    let k = s .args .walk in
-    (unit-back (k .dy) (s .pre .0 .row), row-below (k .w) (k .h) (s .args .p) (s .pre .1))
+step-back-requires-2 c κs = let s = c .before .before .before .before .before .before in (unit-back (s .args .walk .dy) (s .pre .0 .row), s .pre .2)
 
-enum-known-y : tie.Need-enum-known-y
-enum-known-y c = search needs
+enum-known-row : tie.Need-enum-known-row
+enum-known-row c = search needs
 
 enum-told-2 : tie.Need-enum-told-2
 enum-told-2 c = search needs
@@ -85,36 +76,34 @@ enum-told-2 c = search needs
 returns-2 : tie.Need-returns-2
 returns-2 c =
     let d = c .before .before in
-    let a = start d .args in
+    let s = start d in
     let f = d .before .before .before in
-    sym (no-row (a .walk) (a .p) (f .x .given .0 .0) (at-x f) (sym (line d) ∙ c .enum-told2 .given .1))
+    sym (no-row (s .args .walk) (pixel s) (f .column .given .0 .0) (found-column f) (sym (at-row d) ∙ c .enum-told2 .given .1))
 
-mul-t7 : tie.Need-mul-t7
-mul-t7 c = omega (arith, in-picture (c .before), start (c .before .before .before) .pre .2)
+mul-t9 : tie.Need-mul-t9
+mul-t9 c = omega (arith, in-picture (c .before), start (c .before .before .before) .pre .3)
 
-add-t9 : tie.Need-add-t9
-add-t9 c = omega (arith, in-picture (c .before), start (c .before .before .before) .pre .2)
+add-t10 : tie.Need-add-t10
+add-t10 c = omega (arith, in-picture (c .before), start (c .before .before .before) .pre .3)
 
 returns-3 : tie.Need-returns-3
 returns-3 c =
     let d = c .before in
-    let a = start (d .before .before) .args in
-    sym (both-places (a .walk) (a .p) (left d .x .given .0 .0) (d .y .given .0 .0) (at-x (left d)) (at-y d))
+    let s = start (d .before .before) in
+    sym (both-places (s .args .walk) (pixel s) (left d .column .given .0 .0) (d .row .given .0 .0) (found-column (left d)) (found-row d))
 
 pub previous-spec : {M : Type 1} → statement M
 previous-spec =
     tie.close
     (tie.spec
-    rem-step-back
     step-back-requires
-    enum-known-x
+    enum-known-column
     enum-told
     returns
-    div-step-back
     step-back-requires-2
-    enum-known-y
+    enum-known-row
     enum-told-2
     returns-2
-    mul-t7
-    add-t9
+    mul-t9
+    add-t10
     returns-3)

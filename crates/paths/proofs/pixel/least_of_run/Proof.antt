@@ -1,41 +1,41 @@
 -- `paths::pixel::least_of_run` meets its contract: after k turns the least of the rest and of what was found is that of all. Assumes nothing.
+use borrow.Author.Needs.{needs}
 use denote.Ref.{now}
-use mathlib.Core.Path.{_≡_, sym, _∙_}
 use Prim.Native.Nat.{_-_, _≤_}
 use native.Mathlib.Omega.{arith}
-use lib.ListN.{drop}
-use borrow.Author.Needs.{needs}
-use Rattle.paths.specs.Path.{leastFrom, leastOf}
 use Rattle.paths.specs.Room.{run}
 use Rattle.paths.proofs.Parts.{length-run}
-use Rattle.paths.proofs.Steps.{least-turn, least-done}
+use Rattle.paths.proofs.Orders.{Lowest, lowest-none, cell-upto, upto-number, lowest-turn, lowest-number, lowest-done}
 use Rattle.paths.proofs.pixel.least_of_run.Statement.{statement}
 use Rattle.paths.proofs.pixel.least_of_run.Tie as tie
 
 abbrev Inv-loop : tie.InvT-loop
-Inv-loop v at count least₀ k₀ least k = (k ≤ count) × (leastFrom least (drop k (run count at v)) ≡ leastOf (run count at v))
+Inv-loop v at count lowest₀ k₀ lowest k = (k ≤ count) × Lowest lowest k (run count at v)
 
 abbrev μ-loop : tie.MeasureT-loop
-μ-loop v at count least₀ k₀ least k = count - k
-
-infinity-requires : tie.Need-infinity-requires Inv-loop μ-loop
-infinity-requires c κs = search needs
+μ-loop v at count lowest₀ k₀ lowest k = count - k
 
 loop-holds : tie.Need-loop-holds Inv-loop μ-loop
-unfolding leastOf
-loop-holds c = (omega arith, rw (c .infinity .ensures))
+loop-holds c = let a = c .before .args in (omega arith, lowest-none (run (a .count) (a .at) (now (a .v))))
 
-add-smaller : tie.Need-add-smaller Inv-loop μ-loop
-add-smaller c = search needs
+add-lower : tie.Need-add-lower Inv-loop μ-loop
+add-lower c = search needs
 
-mul-smaller : tie.Need-mul-smaller Inv-loop μ-loop
-mul-smaller c = search needs
+mul-lower : tie.Need-mul-lower Inv-loop μ-loop
+mul-lower c = search needs
 
-shared-slice-read-smaller : tie.Need-shared-slice-read-smaller Inv-loop μ-loop
-shared-slice-read-smaller c = search needs
+shared-slice-read-lower : tie.Need-shared-slice-read-lower Inv-loop μ-loop
+shared-slice-read-lower c = search needs
 
-smaller-requires : tie.Need-smaller-requires Inv-loop μ-loop
-smaller-requires c κs = search needs
+float-to-bits-lower : tie.Need-float-to-bits-lower Inv-loop μ-loop
+float-to-bits-lower c =
+    let d = c .before in
+    let s = d .before .before .before in
+    let a = s .args in
+    upto-number 1027 _ (cell-upto (a .count) (a .at) (now (a .v)) (d .before .loop .k) (s .pre .0) (s .pre .1) (d .loop-test .taken))
+
+lower-requires : tie.Need-lower-requires Inv-loop μ-loop
+lower-requires c κs = search needs
 
 add-k : tie.Need-add-k Inv-loop μ-loop
 add-k c = search needs
@@ -45,19 +45,24 @@ loop-less c = search needs
 
 loop-again : tie.Need-loop-again Inv-loop μ-loop
 loop-again c =
-    let a = c .before .before .before .before .before .before .args in
-    let at-loop = c .before .before .before in (
-      omega arith,
-      least-turn (a .count) (a .at) (now (a .v)) (at-loop .loop .k) (at-loop .loop .least) (c .smaller .result) (omega arith) (omega arith) (c .smaller .ensures)
-          ∙ at-loop .loop .inv .1,
-    )
+    let d = c .before .before in
+    let s = d .before .before .before in
+    let a = s .args in
+    let l = d .before .loop in
+    (omega arith, lowest-turn (a .count) (a .at) (now (a .v)) (l .k) (l .lowest) (c .lower .result) (s .pre .0) (s .pre .1) (d .loop-test .taken) (l .inv .1) (c .lower .ensures))
+
+float-from-bits-result : tie.Need-float-from-bits-result Inv-loop μ-loop
+float-from-bits-result c =
+    let a = c .before .before .before .args in
+    let l = c .before .loop in
+    lowest-number (l .lowest) (l .k) (run (a .count) (a .at) (now (a .v))) (l .inv .1)
 
 returns : tie.Need-returns Inv-loop μ-loop
 returns c =
-    let a = c .before .before .before .before .args in
-    sym (least-done (run (a .count) (a .at) (now (a .v))) (c .before .loop .k) (c .before .loop .least)
-    (omega (arith, length-run (a .count) (a .at) (now (a .v)) (omega arith))))
-    ∙ c .before .loop .inv .1
+    let s = c .before .before .before in
+    let a = s .args in
+    let l = c .before .loop in
+    lowest-done (l .lowest) (l .k) (run (a .count) (a .at) (now (a .v))) (omega (arith, length-run (a .count) (a .at) (now (a .v)) (s .pre .0))) (l .inv .1)
 
 pub least-of-run-spec : {M : Type 1} → statement M
 least-of-run-spec =
@@ -65,13 +70,14 @@ least-of-run-spec =
     (tie.spec
     Inv-loop
     μ-loop
-    infinity-requires
     loop-holds
-    add-smaller
-    mul-smaller
-    shared-slice-read-smaller
-    smaller-requires
+    add-lower
+    mul-lower
+    shared-slice-read-lower
+    float-to-bits-lower
+    lower-requires
     add-k
     loop-less
     loop-again
+    float-from-bits-result
     returns)

@@ -24,7 +24,7 @@ abbrev one : tie.After-path-end → List Float
 one c = set (now (start c .args .v)) (start c .args .at) (c .path-end .result)
 
 one-made : (c : tie.After-path-end) → one c ≡ paste (now (start c .args .v)) (start c .args .at) (made (step c)) 1
-one-made c = first-made (step c) (start c .pre .1) (c .path-end .result) (c .path-end .ensures)
+one-made c = first-made (step c) (start c .pre .1 .0) (c .path-end .result) (c .path-end .ensures)
 
 -- where the inner cells are stored too: all but the last
 abbrev back : tie.After-path-inner → tie.After-path-end
@@ -38,7 +38,7 @@ most-made d =
     let c = back d in
     let n = start c .args .count in
     let e : 1 + (n - 2) ≡ n - 1 = omega (arith, d .before .before .if1 .taken) in
-    rw e at (part-more (step c) 1 (start c .pre .1) (one c) (one-made c) (n - 2) (omega (arith, d .before .before .if1 .taken)) (most d) (d .path-inner .ensures))
+    rw e at (part-more (step c) 1 (start c .pre .1 .0) (one c) (one-made c) (n - 2) (omega (arith, d .before .before .if1 .taken)) (most d) (d .path-inner .ensures))
 
 most-length : (d : tie.After-path-inner) → length (most d) ≡ length (now (start (back d) .args .v))
 most-length d = part-length (step (back d)) (start (back d) .args .count - 1) (omega arith) (most d) (most-made d)
@@ -58,7 +58,7 @@ slice-write-v c = search needs
 path-inner-requires : tie.Need-path-inner-requires
 path-inner-requires e κs =
     let c = e .before .before in
-    let s = part-step (step c) 1 (start c .pre .1) (one c) (one-made c) in
+    let s = part-step (step c) 1 (start c .pre .1 .0) (one c) (one-made c) in
     ((s .prev-at, s .cost-at), (omega arith, s .least))
 
 sub-last : tie.Need-sub-last
@@ -68,7 +68,7 @@ path-end-requires-2 : tie.Need-path-end-requires-2
 path-end-requires-2 c κs =
     let d = c .before .before .before in
     let s = part-step (step (back d)) (start (back d) .args .count - 1) (omega arith) (most d) (most-made d) in
-    ((s .prev-at .a-in, s .cost-at .a-in), (omega (arith, start (back d) .pre .1), s .least))
+    ((s .prev-at .a-in, s .cost-at .a-in), (omega (arith, start (back d) .pre .1 .0), s .least))
 
 add-v : tie.Need-add-v
 add-v c = search needs
@@ -80,7 +80,7 @@ slice-write-v-2 : tie.Need-slice-write-v-2
 slice-write-v-2 c =
     let d = c .before .before .before .before in
     let s = start (back d) in
-    omega (arith, most-length d, s .pre .0 .0 .b-in, s .pre .1)
+    omega (arith, most-length d, s .pre .0 .0 .b-in, s .pre .1 .0)
 
 same-length : tie.Need-same-length
 same-length c = simp length-set (most-length (c .before .before .before .before))
@@ -90,8 +90,8 @@ returns e =
     let d = e .before .before .before .before in
     let c = back d in
     let a = start c .args in
-    let n : a .count - 1 + 1 ≡ a .count = omega (arith, start c .pre .1) in
-    let t = part-turn (step c) (a .count - 1) (omega arith) (most d) (most-made d) (omega (arith, start c .pre .1)) (e .path-end2 .result) (e .path-end2 .ensures) in
+    let n : a .count - 1 + 1 ≡ a .count = omega (arith, start c .pre .1 .0) in
+    let t = part-turn (step c) (a .count - 1) (omega arith) (most d) (most-made d) (omega (arith, start c .pre .1 .0)) (e .path-end2 .result) (e .path-end2 .ensures) in
     part-whole (step c) (a .count) (omega arith) (set (most d) (a .at + (a .count - 1)) (e .path-end2 .result)) (rw n at t) refl
 
 same-length-2 : tie.Need-same-length-2
@@ -100,7 +100,7 @@ same-length-2 c = search needs
 returns-2 : tie.Need-returns-2
 returns-2 e =
     let c = e .before in
-    part-whole (step c) 1 (start c .pre .1) (one c) (one-made c) (omega (arith, start c .pre .1))
+    part-whole (step c) 1 (start c .pre .1 .0) (one c) (one-made c) (omega (arith, start c .pre .1 .0))
 
 pub path-pixel-spec : {M : Type 1} → statement M
 path-pixel-spec =

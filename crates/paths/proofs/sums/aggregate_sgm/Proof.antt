@@ -13,7 +13,7 @@ use Rattle.paths.specs.Path.{addVec}
 use Rattle.paths.specs.Room.{run, put, Room}
 use Rattle.paths.specs.Walk.{pathVolume, zeros}
 use Rattle.paths.proofs.Rooms.{same-room}
-use Rattle.paths.proofs.Added.{same-direction, same-walk, Added, added-none, added-length, added-room, added-more, added-done, cleared-length, cleared-sums, zeroed}
+use Rattle.paths.proofs.Added.{same-direction, same-walk, Added, added-none, added-length, added-room, added-costs, added-more, added-done, cleared-length, cleared-sums, cleared-costs, zeroed}
 use Rattle.paths.proofs.sums.aggregate_sgm.Statement.{statement}
 use Rattle.paths.proofs.sums.aggregate_sgm.Tie as tie
 
@@ -91,7 +91,12 @@ path-direction-requires c κs =
     let d = at-loop .before in
     let s = start d in
     let a = s .args in
-    (same-direction (at-loop .loop .k) (omega (arith, c .before .before .before .before .loop-test .taken)), (s .pre .0, added-room (a .w) (a .h) (a .count) (a .p1) (a .p2) (room d) (at-loop .loop .inv .1)))
+    let added = at-loop .loop .inv .1 in
+    let same : run (a .w * a .h * a .count) (a .costs) (at-loop .loop .v) ≡ run (a .w * a .h * a .count) (a .costs) (now (a .v)) =
+    added-costs (a .w) (a .h) (a .count) (a .p1) (a .p2) (room d) added ∙ cleared-costs (a .w) (a .h) (a .count) (s .pre .1) (is-cleared d) in (
+      same-direction (at-loop .loop .k) (omega (arith, c .before .before .before .before .loop-test .taken)),
+      (s .pre .0, added-room (a .w) (a .h) (a .count) (a .p1) (a .p2) (room d) added, rw same (s .pre .2)),
+    )
 
 add-k : tie.Need-add-k Inv-loop μ-loop
 add-k c = search needs

@@ -1,0 +1,20 @@
+-- `paths::direction::next_turn` meets its contract. Assumes nothing.
+use borrow.Author.Needs.{needs}
+use borrow.Author.Tests.{lt-ltb, le-ltb}
+use Rattle.paths.proofs.direction.next_turn.Statement.{statement}
+use Rattle.paths.proofs.direction.next_turn.Tie as tie
+
+add-if1 : tie.Need-add-if1
+add-if1 c = search needs
+
+add-result : tie.Need-add-result
+add-result c = search needs
+
+returns : tie.Need-returns
+returns c = rw (lt-ltb _ _ (c .if1 .taken))
+
+returns-2 : tie.Need-returns-2
+returns-2 c = rw (le-ltb _ _ (c .if1 .left))
+
+pub next-turn-spec : {M : Type 1} → statement M
+next-turn-spec = tie.close (tie.spec add-if1 add-result returns returns-2)
