@@ -1,6 +1,8 @@
 //! Times the proved library beside the Rust on the same pairs, in one run, left-right test on.
 //!
 //! `bench [REPEATS]` prints a table: seconds (the best of the repeats), their ratio, and the most memory that each held at once.
+//! `bench once library|rust|nothing block|semi-global` makes one map of 640x480x64, or only what both are made from, and prints
+//! nothing, so that a counter of instructions has one thing to count.
 mod memory;
 
 use memory::peak_of;
@@ -104,8 +106,33 @@ fn growth(repeats: usize) {
     }
 }
 
+/// One map of 640x480x64 by one of the two, or by neither.
+fn once(who: &str, mode: &str) {
+    let (w, h, count) = (640, 480, 64);
+    let pair = pair(w, h);
+    let options = Options { num_disparities: count as i32, semi_global: mode == "semi-global", ..Options::default() };
+    let picture = |bytes| Picture { bytes, width: w, height: h };
+    let gray = |bytes: &[u8]| dense::GrayImage::new(w, h, bytes.to_vec());
+    let (left, right) = (picture(pair.left.as_slice()), picture(pair.right.as_slice()));
+    let (a, b, o) = (gray(&pair.left), gray(&pair.right), rust_options(&options));
+    let mut out = vec![0.0; w * h];
+    let mut whole = vec![0; whole_cells(w, h)];
+    let mut float = vec![0.0; float_cells(w, h, count, options.semi_global)];
+    match who {
+        "library" => match_block_in(left, right, &options, &mut out, &mut whole, &mut float).expect("accepted"),
+        "rust" => drop(black_box(dense::match_block(&a, &b, &o).expect("accepted"))),
+        _ => (),
+    }
+    black_box((out, whole, float));
+}
+
 fn main() {
-    let repeats = std::env::args().nth(1).map_or(3, |n| n.parse().expect("REPEATS is a whole number"));
+    let words: Vec<String> = std::env::args().skip(1).collect();
+    if let [first, who, mode] = words.as_slice() {
+        assert!(first == "once", "bench once library|rust|nothing block|semi-global");
+        return once(who, mode);
+    }
+    let repeats = words.first().map_or(3, |n| n.parse().expect("REPEATS is a whole number"));
     println!("block 7, left-right on, best of {repeats}; every map was compared cell by cell");
     println!("| pair | mode | library s | Rust s | Rust / library | library MB | Rust MB | library ns per cell of the volume |");
     println!("|---|---|---|---|---|---|---|---|");
