@@ -14,12 +14,12 @@ ghost use Rattle.costs.specs.Rooms.{RoomOf, Pair};
 use numbers::narrow::narrow_plain;
 use windows::window_sum;
 
-// A whole number as an f64.
+// A whole number as an f64. The remainder is the number itself: it tells the compiler that 32 bits are enough.
 fn counted(n: u64) -> f64
     requires { ⌜ n < 2 ^ 32 ⌝ }
     ensures { λ v. ⌜ v ≡ ofInt binary64 (pos n) ⌝ }
 {
-    (n as u32) as f64
+    ((n % 0x1_0000_0000) as u32) as f64
 }
 
 // n·Sab - Sa·Sb, of the sums and the sum of products of two windows of n levels: f64 counts each step.
