@@ -1,13 +1,14 @@
 //! Times the proved library beside the Rust on the same pairs, in one run, left-right test on.
 //!
 //! `bench [REPEATS]` prints a table: seconds (the best of the repeats), their ratio, and the most memory that each held at once.
+//! `bench parts [REPEATS]` prints what the parts of one map of 640x480x64 take.
 //! `bench once library|rust|nothing block|semi-global` makes one map of 640x480x64, or only what both are made from, and prints
 //! nothing, so that a counter of instructions has one thing to count.
 mod memory;
 
 use memory::peak_of;
 use oracle::dense;
-use plombrisa::{Options, Picture, float_cells, match_block_in, whole_cells};
+use plombrisa::{Options, Picture, float_cells, match_block_in, raw_volume_in, whole_cells};
 use std::hint::black_box;
 use std::time::Instant;
 
@@ -106,6 +107,32 @@ fn growth(repeats: usize) {
     }
 }
 
+/// The library's raw volume, the maps without and with the left-right test, in both modes.
+fn parts(repeats: usize) {
+    let (w, h, count) = (640, 480, 64);
+    let pair = pair(w, h);
+    let picture = |bytes| Picture { bytes, width: w, height: h };
+    let (left, right) = (picture(pair.left.as_slice()), picture(pair.right.as_slice()));
+    let mut out = vec![0.0; w * h];
+    let mut volume = vec![0.0; count * w * h];
+    let mut whole = vec![0; whole_cells(w, h)];
+    let mut float = vec![0.0; float_cells(w, h, count, true)];
+    let plain = Options { num_disparities: count as i32, ..Options::default() };
+    let raw = best_of(repeats, || raw_volume_in(left, right, &plain, false, &mut volume, &mut whole).expect("accepted"));
+    println!("640x480x64, block 7, best of {repeats}");
+    println!("| part | s |");
+    println!("|---|---|");
+    println!("| raw volume of one side | {raw:.3} |");
+    for semi_global in [false, true] {
+        for lr_consistency in [false, true] {
+            let options = Options { semi_global, lr_consistency, ..plain };
+            let seconds = best_of(repeats, || match_block_in(left, right, &options, &mut out, &mut whole, &mut float).expect("accepted"));
+            let mode = if semi_global { "semi-global" } else { "block" };
+            println!("| {mode} map, left-right {} | {seconds:.3} |", if lr_consistency { "on" } else { "off" });
+        }
+    }
+}
+
 /// One map of 640x480x64 by one of the two, or by neither.
 fn once(who: &str, mode: &str) {
     let (w, h, count) = (640, 480, 64);
@@ -131,6 +158,9 @@ fn main() {
     if let [first, who, mode] = words.as_slice() {
         assert!(first == "once", "bench once library|rust|nothing block|semi-global");
         return once(who, mode);
+    }
+    if words.first().is_some_and(|word| word == "parts") {
+        return parts(words.get(1).map_or(3, |n| n.parse().expect("REPEATS is a whole number")));
     }
     let repeats = words.first().map_or(3, |n| n.parse().expect("REPEATS is a whole number"));
     println!("block 7, left-right on, best of {repeats}; every map was compared cell by cell");
