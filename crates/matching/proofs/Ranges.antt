@@ -15,19 +15,14 @@ use Rattle.lists.proofs.Tests.{and-both}
 use Rattle.lists.proofs.Rows.{cell-in}
 use Rattle.lists.proofs.Lists.{listOf-length, listOf-at}
 use Rattle.options.specs.Limits.{isPenalty}
-use Rattle.options.specs.Costs.{stored, rawOf, InRange}
+use Rattle.options.specs.Costs.{rawOf, InRange}
 use Rattle.options.specs.declared.BlockMatchOptions.{BlockMatchOptions}
 use Rattle.options.specs.declared.RawCost.{RawCost}
 use Rattle.options.specs.declared.RawCost.the-variants.{Blank}
 use Rattle.options.specs.declared.Side.{Side}
-use Rattle.options.proofs.Stored.{stored-back}
 use Rattle.refusals.specs.declared.Call.{Call}
 use Rattle.refusals.specs.Accepted as refusals
 use Rattle.refusals.proofs.Rows.{accepted}
-use Rattle.costs.specs.Raw.{rawCost}
-use Rattle.costs.specs.Rooms.{Picture}
-use Rattle.costs.specs.Volume.{rawVolume, cellOf}
-use Rattle.costs.proofs.Laws.{raw-cost-bound}
 use Rattle.choices.specs.Block.{costsOf, bestOf, away, competitor}
 use Rattle.choices.specs.SemiGlobal.{sumsOf, leastOf}
 use Rattle.choices.specs.Extremes.{AllInRange, AllFinite, Finds, Smallest}
@@ -40,24 +35,17 @@ use Rattle.paths.proofs.Ranges.{path-costs-range, path-sums-range, path-sums-fi
 use Rattle.matching.specs.Maps.{half, countOf, volumeOf, sumsFrom}
 use Rattle.matching.specs.Outcome.{matchCall}
 use Rattle.matching.specs.Accepted.{AcceptedMatch}
+use Rattle.matching.proofs.Ranged.{ranged}
 
 module _ {w h : ℕ} {o : BlockMatchOptions} {left right : List ℕ} (m : AcceptedMatch w h o left right) where
-  sizes : refusals.Accepted (matchCall left w h right w h o (m .outLength) (m .wholeLength) (m .floatLength))
-  sizes = accepted _ (m .accepted)
-
-  left-picture : Picture w h left
-  left-picture = record { bytes = sizes .sizes .left-bytes; small = m .left-levels }
-
-  right-picture : Picture w h right
-  right-picture = record { bytes = sizes .sizes .right-bytes; small = m .right-levels }
+  sizes : refusals.Accepted (matchCall left w h right w h o (m .pair .out) (m .pair .whole) (m .pair .float))
+  sizes = accepted _ (m .pair .accepted)
 
   -- THEOREM: every cell of either side's raw volume is blank or lies from -1 to 1
   pub volume-range : (side : Side) (i : ℕ) → i < countOf o * (w * h) → InRange (rawOf (getD (volumeOf w h o side left right) i nan))
-  unfolding rawVolume
-  volume-range side i l =
-      let cost = rawCost side w h (half o) (o .«min_disparity») left right (i % (w * h) % w) (i % (w * h) / w) (i / (w * h)) in
-      let bound = raw-cost-bound side w h (half o) (o .«min_disparity») left right (i % (w * h) % w) (i % (w * h) / w) (i / (w * h)) (sizes .sizes .r-most) left-picture right-picture in
-      rw (listOf-at (countOf o * (w * h)) _ i nan l) (subst InRange (sym (stored-back cost bound)) bound)
+  volume-range side =
+      ranged {w = w} {h = h} {o = o} {left = left} {right = right} (sizes .sizes .r-most) (record { bytes = sizes .sizes .left-bytes; small = m .pair .left-levels })
+      (record { bytes = sizes .sizes .right-bytes; small = m .pair .right-levels }) side .cells
 
   -- a pixel's raw costs
   abbrev costsAt : Side → ℕ → List RawCost

@@ -9,13 +9,21 @@ use Rattle.options.specs.declared.BlockMatchOptions.{BlockMatchOptions}
 use Rattle.refusals.specs.Refusals.{refusal}
 use Rattle.matching.specs.Outcome.{matchCall}
 
--- nothing is refused; that levels are bytes and penalties are f32 holds of whatever a caller can hand over
+-- a picture's levels are 0 to 255
+abbrev pub Levels : List ℕ → Type 0
+Levels picture = (i : ℕ) → getD picture i 0 ≤ 255
+
+-- a pair of w by h pictures that is accepted with these options: for some lengths of what is lent, no row of the table applies
+pub record AcceptedPair (w h : ℕ) (o : BlockMatchOptions) (left right : List ℕ) : Type 0 where
+  pub out : ℕ
+  pub whole : ℕ
+  pub float : ℕ
+  pub accepted : refusal (matchCall left w h right w h o out whole float) ≡ 0
+  pub left-levels : Levels left
+  pub right-levels : Levels right
+
+-- and the penalties are f32, as whatever a caller can hand over is
 pub record AcceptedMatch (w h : ℕ) (o : BlockMatchOptions) (left right : List ℕ) : Type 0 where
-  pub outLength : ℕ
-  pub wholeLength : ℕ
-  pub floatLength : ℕ
-  pub accepted : refusal (matchCall left w h right w h o outLength wholeLength floatLength) ≡ 0
-  pub left-levels : (i : ℕ) → getD left i 0 ≤ 255
-  pub right-levels : (i : ℕ) → getD right i 0 ≤ 255
+  pub pair : AcceptedPair w h o left right
   pub p1-fits : T (fits binary32 (o .«sgm_p1»))
   pub p2-fits : T (fits binary32 (o .«sgm_p2»))

@@ -25,7 +25,8 @@ use Rattle.choices.specs.Subpixel.{placed, refined, denom, delta}
 use Rattle.choices.specs.Block.{costsOf, blockMap, blockCell, blockChoice, bestOf, gated, competitor}
 use Rattle.choices.specs.LeftRight.{leftRight, testedCell, confirms}
 use Rattle.matching.specs.Maps.{mapOf}
-use Rattle.promises.specs.Changes.{OneLevel, AcceptedPair, Changed}
+use Rattle.matching.specs.Accepted.{AcceptedPair}
+use Rattle.promises.specs.Changes.{OneLevel, Changed}
 use Rattle.promises.proofs.Tested.{bytes, levels, change, one-level}
 use Rattle.promises.proofs.Demand.{demand-three, misses-above, inside-rows, no-rows}
 

@@ -27,7 +27,8 @@ use Rattle.costs.proofs.Frames.{at-each}
 use Rattle.costs.proofs.Scaling.{pair-scaled}
 use Rattle.matching.specs.Maps.{half, countOf, volumeOf}
 use Rattle.matching.specs.Outcome.{matchCall}
-use Rattle.promises.specs.Changes.{Outside, Misses, NoRows, Relevelled, AcceptedPair, Changed}
+use Rattle.matching.specs.Accepted.{AcceptedPair}
+use Rattle.promises.specs.Changes.{Outside, Misses, NoRows, Relevelled, Changed}
 
 -- ---- the levels over naturals, with s = u - t
 record Whole (w h p q m : ℕ) (a a′ : List ℕ) : Type 0 where

@@ -10,7 +10,8 @@ use borrow.Author.Tests.{leb-true, eqb-true, lt-leb, le-leb}
 use Rattle.lists.specs.Lists.{allBelow}
 use Rattle.lists.specs.Rows.{levelAt}
 use Rattle.lists.proofs.Tests.{and-both, all-of}
-use Rattle.promises.specs.Changes.{Outside, Levels, Relevelled, OneLevel}
+use Rattle.matching.specs.Accepted.{Levels}
+use Rattle.promises.specs.Changes.{Outside, Relevelled, OneLevel}
 
 -- levels 0 to 255
 unfoldable pub bytes : List ℕ → Bool

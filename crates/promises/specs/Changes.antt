@@ -4,11 +4,9 @@ use mathlib.Core.Path.{_≡_}
 use mathlib.Core.Logic.{_⊎_}
 use mathlib.Core.List.{List}
 use lib.IntN.{ℤ, pos, _+ℤ_}
-use lib.ListN.{getD}
 use Rattle.lists.specs.Rows.{levelAt}
 use Rattle.options.specs.declared.BlockMatchOptions.{BlockMatchOptions}
-use Rattle.refusals.specs.Refusals.{refusal}
-use Rattle.matching.specs.Outcome.{matchCall}
+use Rattle.matching.specs.Accepted.{AcceptedPair}
 
 -- row i lies outside rows p to q
 abbrev pub Outside : ℕ → ℕ → ℕ → Type 0
@@ -45,19 +43,6 @@ pub record Relevelled (w h p q : ℕ) (first second : List ℕ) : Type 0 where
 pub record OneLevel (w h p q : ℕ) (picture : List ℕ) : Type 0 where
   pub level : ℕ
   pub only : (x y : ℕ) → x < w → y < h → Among p q y → levelAt w picture x y ≡ level
-
--- a picture's levels are 0 to 255
-abbrev pub Levels : List ℕ → Type 0
-Levels picture = (i : ℕ) → getD picture i 0 ≤ 255
-
--- a pair of w by h pictures that is accepted with these options: for some lengths of what is lent, no row of the table applies
-pub record AcceptedPair (w h : ℕ) (o : BlockMatchOptions) (left right : List ℕ) : Type 0 where
-  pub out : ℕ
-  pub whole : ℕ
-  pub float : ℕ
-  pub accepted : refusal (matchCall left w h right w h o out whole float) ≡ 0
-  pub left-levels : Levels left
-  pub right-levels : Levels right
 
 -- DEMAND 3's HYPOTHESES: two accepted pairs of one size, with the same options; outside rows p to q each picture of the second pair is the first pair's with its levels changed
 pub record Changed (w h : ℕ) (o : BlockMatchOptions) (p q : ℕ) (left right left′ right′ : List ℕ) : Type 0 where
