@@ -4,9 +4,7 @@ use mathlib.Core.Path.{_≡_, refl, sym, ap, ap₂, _∙_, subst}
 use native.Mathlib.Nat.{le-trans, le-of-eq}
 use native.Mathlib.Omega.{arith}
 use lib.IntN.{ℤ, pos, negsuc, natAbs, negℤ, _+ℤ_, _-ℤ_, +ℤ-comm, +ℤ-idl}
-use mathlib.Core.Bool.{true, false, true≢false}
-use lib.Dec.{T}
-use lib.Signed.{mag, nonNeg, ltZ}
+use lib.Signed.{mag}
 use mir.Syntax.{w64}
 use mir.Val.{SFits, toZ, ofZ}
 use mir.ValLaws.{toZ-ofZ, toZ-pos}
@@ -15,8 +13,9 @@ use Rattle.options.specs.declared.Side.{Side}
 use Rattle.options.specs.declared.Side.the-variants.{Left, Right}
 use Rattle.costs.specs.Raw.{shiftOf}
 use mathlib.Core.Logic.{⊎-elim}
-use borrow.Author.Tests.{lt-ltb, le-ltb, ltb-true}
+use borrow.Author.Tests.{lt-ltb, le-ltb}
 use Rattle.lists.proofs.Tests.{lt-or-le}
+use Rattle.windows.proofs.Shifts.{abs-neg, small-fits, none-minus}
 
 -- a column moved by s is at most so far off
 moved-most : (x : ℕ) (s : ℤ) → natAbs (pos x +ℤ s) ≤ x + natAbs s
@@ -26,28 +25,6 @@ moved-most x (negsuc b) =
     (λ (l : x < suc b). rw (lt-ltb x (suc b) l) (omega arith))
     (λ (l : suc b ≤ x). rw (le-ltb x (suc b) l) (omega arith))
     (lt-or-le x (suc b))
-
-pub abs-neg : (z : ℤ) → natAbs (negℤ z) ≡ natAbs z
-abs-neg (pos zero) = refl
-abs-neg (pos (suc n)) = refl
-abs-neg (negsuc n) = refl
-
-pub small-fits : (z : ℤ) → natAbs z ≤ 2 ^ 62 → SFits w64 z
-small-fits (pos n) l = record { sfits = omega arith }
-small-fits (negsuc n) l = record { sfits = omega arith }
-
-pub none-minus : (z : ℤ) → pos 0 -ℤ z ≡ negℤ z
-none-minus z = +ℤ-idl (negℤ z)
-
--- what a test against 0 tells of the sign
-pub non-neg : (z : ℤ) → ltZ z (pos 0) ≡ false → T (nonNeg z)
-non-neg (pos n) e = tt
-non-neg (negsuc n) e = absurd (true≢false e)
-
-pub neg-non-neg : (z : ℤ) → ltZ z (pos 0) ≡ true → T (nonNeg (negℤ z))
-neg-non-neg (pos zero) e = tt
-neg-non-neg (pos (suc n)) e = absurd (omega (arith, ltb-true (suc n) 0 e))
-neg-non-neg (negsuc n) e = tt
 
 -- d = first + k
 module _ (first : ℤ) (k : ℕ) (lf : natAbs first ≤ firstMost) (lk : k < countMost) where

@@ -14,24 +14,13 @@ ghost use Rattle.costs.specs.Span.{spanOf};
 ghost use Rattle.costs.specs.Volume.{rowCells, planeCells};
 ghost use Rattle.costs.specs.Rooms.{RoomOf, Ready, Lined};
 use crate::raw::pair_cost;
+use windows::distance;
 
 // The columns of a row where both windows lie within it, and where the target's begin.
 pub struct Span {
     pub first: usize,
     pub other: usize,
     pub count: usize,
-}
-
-// How far apart the two columns are.
-fn distance(shift: i64) -> usize
-    requires { ⌜ natAbs shift ≤ shiftMost ⌝ }
-    ensures { λ d. ⌜ d ≡ natAbs shift ⌝ }
-{
-    if shift < 0 {
-        (0 - shift) as usize
-    } else {
-        shift as usize
-    }
 }
 
 // What is left of w cells.

@@ -5,6 +5,8 @@ pub mod Tables
 pub mod Windows
 pub mod Corners
 pub mod Shifts
+pub mod Parts
+pub mod Crossed
 pub mod Laws
 pub mod Cauchy
 pub mod Bounds

@@ -14,7 +14,7 @@ use Rattle.windows.specs.Table.{RowReady, nextRow}
 use Rattle.windows.proofs.Sums.{sumTo-bound}
 
 -- a store of the next value: after `p` and the first n values of g, with the rest of `d`, at the place k that follows them
-store-next : (p d : List ℕ) (g : ℕ → ℕ) (n k v : ℕ) → length p + n ≡ k → k < length d → v ≡ g n
+pub store-next : (p d : List ℕ) (g : ℕ → ℕ) (n k v : ℕ) → length p + n ≡ k → k < length d → v ≡ g n
     → set (p ++ listOf n g ++ drop k d) k v ≡ p ++ listOf (n + 1) g ++ drop (k + 1) d
 store-next p d g n k v at h e =
     rw (add-one n, add-one k, listOf-snoc, drop-cons d k 0 h, set-at (p ++ listOf n g) (getD d k 0) (drop (suc k) d) v k (rw (length-append, listOf-length) at), e)

@@ -1,80 +1,97 @@
--- A column moved by a signed shift.
-use Prim.Native.Nat.{ℕ, zero, suc, _+_, _*_, _^_, _-_, _≤_, _<_, zero-le}
-use mathlib.Core.Path.{_≡_, refl, sym, ap, ap₂, _∙_, fun-ext}
-use mathlib.Core.Bool.{true, false}
+-- A signed shift, and a column moved by it. Assumes nothing.
+use Prim.Native.Nat.{ℕ, zero, suc, _+_, _*_, _^_, _-_, _≤_, _<_, zero-le, min}
+use mathlib.Core.Path.{_≡_, refl, sym, ap, subst, fun-ext}
+use mathlib.Core.Bool.{true, false, true≢false}
 use mathlib.Core.List.{List}
-use mathlib.Core.Logic.{⊎-elim}
 use native.Mathlib.Nat.{mul-le-mul, add-zero}
 use native.Mathlib.Omega.{arith}
 use borrow.Author.Tests.{lt-ltb, le-ltb, ltb-true}
-use lib.Dec.{T, ltb}
-use lib.IntN.{ℤ, pos, negsuc, natAbs, _+ℤ_}
+use lib.Dec.{T}
+use lib.IntN.{ℤ, pos, negsuc, natAbs, negℤ, _+ℤ_, _-ℤ_, +ℤ-idl}
 use lib.ListN.{length, getD, List·getD-eq-default}
-use lib.Signed.{mag, ltZ, nonNeg}
+use lib.Signed.{ltZ, nonNeg}
 use mir.Syntax.{w64}
-use mir.Val.{SFits, Fits, toZ, ofZ}
-use mir.ValLaws.{toZ-ofZ, toZ-pos}
-use Rattle.options.specs.Limits.{sideMost, shiftMost}
-use Rattle.lists.proofs.Tests.{lt-or-le}
+use mir.Val.{SFits}
 use Rattle.lists.specs.Rows.{levelAt}
-use Rattle.windows.specs.Table.{squareAt, columnAt, crossIn, crossAt}
+use Rattle.windows.specs.declared.Overlap.{Overlap}
+use Rattle.windows.specs.Table.{levelIn, squareAt, columnAt, crossIn, crossAt}
+use Rattle.windows.specs.Parts.{overlapOf}
 
--- a column of a picture moved by a shift allowed fits a word
-pub shift-mag : (x : ℕ) (s : ℤ) → x ≤ sideMost → natAbs s ≤ shiftMost → mag (pos x +ℤ s) < 2 ^ 63
-shift-mag x (pos b) lx ls = omega arith
-shift-mag x (negsuc b) lx ls =
-    ⊎-elim
-    (λ (l : x < suc b). rw (lt-ltb x (suc b) l) (omega arith))
-    (λ (l : suc b ≤ x). rw (le-ltb x (suc b) l) (omega arith))
-    (lt-or-le x (suc b))
+-- ---- a shift's size
+pub abs-neg : (z : ℤ) → natAbs (negℤ z) ≡ natAbs z
+abs-neg (pos zero) = refl
+abs-neg (pos (suc n)) = refl
+abs-neg (negsuc n) = refl
 
-pub abs-fits : (z : ℤ) → mag z < 2 ^ 63 → natAbs z < 2 ^ 64
-abs-fits (pos a) l = omega arith
-abs-fits (negsuc a) l = omega arith
+pub small-fits : (z : ℤ) → natAbs z ≤ 2 ^ 62 → SFits w64 z
+small-fits (pos n) l = record { sfits = omega arith }
+small-fits (negsuc n) l = record { sfits = omega arith }
 
--- the machine's sum, read back from its bits
-abbrev pub moved : ℕ → ℤ → ℤ
-moved x s = toZ w64 (ofZ w64 (toZ w64 x +ℤ toZ w64 (ofZ w64 s)))
+pub none-minus : (z : ℤ) → pos 0 -ℤ z ≡ negℤ z
+none-minus z = +ℤ-idl (negℤ z)
 
-left-of : (row : List ℕ) (z : ℤ) → ltZ z (pos 0) ≡ true → 0 ≡ columnAt row z
-left-of row (pos a) e = absurd (omega (arith, ltb-true a 0 e))
-left-of row (negsuc a) e = refl
+-- what a test against 0 tells of the sign
+pub non-neg : (z : ℤ) → ltZ z (pos 0) ≡ false → T (nonNeg z)
+non-neg (pos n) e = tt
+non-neg (negsuc n) e = absurd (true≢false e)
 
-pub not-left : (z : ℤ) → ltZ z (pos 0) ≡ false → T (nonNeg z)
-not-left (pos a) e = tt
-not-left (negsuc a) e = let z : _≡_ {A = ℕ} 0 1 = cc in absurd (omega arith)
+pub neg-non-neg : (z : ℤ) → ltZ z (pos 0) ≡ true → T (nonNeg (negℤ z))
+neg-non-neg (pos zero) e = tt
+neg-non-neg (pos (suc n)) e = absurd (omega (arith, ltb-true (suc n) 0 e))
+neg-non-neg (negsuc n) e = tt
 
-column-of : (row : List ℕ) (z : ℤ) → T (nonNeg z) → getD row (natAbs z) 0 ≡ columnAt row z
-column-of row (pos a) t = refl
-column-of row (negsuc a) t = absurd t
+-- ---- the columns that both rows have
 
-module _ (row : List ℕ) (x : ℕ) (s : ℤ) (lx : x ≤ sideMost) (ls : natAbs s ≤ shiftMost) (f : SFits w64 s) where
-  sum : toZ w64 x +ℤ toZ w64 (ofZ w64 s) ≡ pos x +ℤ s
-  sum = ap₂ (λ a b. a +ℤ b) (toZ-pos w64 x (omega arith)) (toZ-ofZ w64 s f)
+-- as they are worked out, by the shift's sign
+pub overlap-left : (n m : ℕ) (s : ℤ) → ltZ s (pos 0) ≡ true → (d first count : ℕ) → d ≡ natAbs s → first ≡ min d n → count ≡ min (n - first) m
+    → record { first = first; other = 0; count = count } ≡ overlapOf n m s
+unfolding overlapOf
+overlap-left n m (pos b) e d first count ed ef ec = absurd (omega (arith, ltb-true b 0 e))
+overlap-left n m (negsuc b) e d first count ed ef ec =
+    let f : first ≡ min (suc b) n = omega arith in
+    let k : count ≡ min (n - suc b) m = omega arith in
+    rw (k, f)
 
-  pub back : moved x s ≡ pos x +ℤ s
-  back = rw sum (toZ-ofZ w64 (pos x +ℤ s) (record { sfits = shift-mag x s lx ls }))
+pub overlap-right : (n m : ℕ) (s : ℤ) → ltZ s (pos 0) ≡ false → (d other count : ℕ) → d ≡ natAbs s → other ≡ min d m → count ≡ min n (m - other)
+    → record { first = 0; other = other; count = count } ≡ overlapOf n m s
+unfolding overlapOf
+overlap-right n m (negsuc b) e d other count ed eo ec = absurd (true≢false e)
+overlap-right n m (pos b) e d other count ed eo ec =
+    let o : other ≡ min b m = omega arith in
+    let k : count ≡ min n (m - b) = omega arith in
+    rw (k, o)
 
-  pub moved-fits : SFits w64 (toZ w64 x +ℤ toZ w64 (ofZ w64 s))
-  moved-fits = rw sum record { sfits = shift-mag x s lx ls }
+-- what they are: within both rows, one by one beside each other, and before and after them the other row has none
+pub record Meets (n m : ℕ) (s : ℤ) (o : Overlap) : Type 0 where
+  pub end : o .first + o .count ≤ n
+  pub end′ : o .other + o .count ≤ m
+  pub left : (row : List ℕ) (x : ℕ) → x < o .first → columnAt row (pos x +ℤ s) ≡ 0
+  pub both : (row : List ℕ) (i : ℕ) → i < o .count → columnAt row (pos (o .first + i) +ℤ s) ≡ levelIn row (o .other + i)
+  pub right : (row : List ℕ) → length row ≡ m → (x : ℕ) → o .first + o .count ≤ x → x < n → columnAt row (pos x +ℤ s) ≡ 0
 
-  -- left of the row there is no level
-  pub moved-left : ltZ (moved x s) (pos 0) ≡ true → 0 ≡ columnAt row (pos x +ℤ s)
-  moved-left e = left-of row (pos x +ℤ s) (rw back at e)
+meets : (n m : ℕ) (s : ℤ) → Meets n m s (overlapOf n m s)
+unfolding overlapOf
+meets n m (pos d) =
+    record {
+      end = omega arith;
+      end′ = omega arith;
+      left = λ row x l. absurd (omega arith);
+      both = λ row i l. ap (λ k. getD row k 0) (omega arith);
+      right = λ row e x l h. List·getD-eq-default row 0 {n = x + d} (omega arith);
+    }
+meets n m (negsuc d) =
+    record {
+      end = omega arith;
+      end′ = omega arith;
+      left = λ row x l. rw (lt-ltb x (suc d) (omega arith));
+      both = λ row i l. rw (le-ltb (min (suc d) n + i) (suc d) (omega arith)) (ap (λ k. getD row k 0) (omega arith));
+      right = λ row e x l h. rw (le-ltb x (suc d) (omega arith)) (List·getD-eq-default row 0 {n = x - suc d} (omega arith));
+    }
 
-  module _ (e : ltZ (moved x s) (pos 0) ≡ false) where
-    right : T (nonNeg (pos x +ℤ s))
-    right = not-left (pos x +ℤ s) (rw back at e)
+pub meets-of : (n m : ℕ) (s : ℤ) (o : Overlap) → o ≡ overlapOf n m s → Meets n m s o
+meets-of n m s o e = subst (λ (k : Overlap). Meets n m s k) (sym e) (meets n m s)
 
-    pub moved-casts : T (nonNeg (moved x s)) × Fits w64 (natAbs (moved x s))
-    moved-casts = rw back (right, record { fits = abs-fits (pos x +ℤ s) (shift-mag x s lx ls) })
-
-    pub moved-column : getD row (natAbs (moved x s)) 0 ≡ columnAt row (pos x +ℤ s)
-    moved-column = rw back (column-of row (pos x +ℤ s) right)
-
-    -- right of the row there is none either
-    pub moved-right : length row ≤ natAbs (moved x s) → 0 ≡ columnAt row (pos x +ℤ s)
-    moved-right l = sym (List·getD-eq-default row 0 l) ∙ moved-column
+-- ---- products
 
 -- a level outside the row is 0, so it is small too
 pub column-small : (row : List ℕ) → ((i : ℕ) → getD row i 0 ≤ 255) → (z : ℤ) → columnAt row z ≤ 255

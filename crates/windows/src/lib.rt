@@ -1,12 +1,14 @@
 // Summed-area tables of a picture, the sum over a window from a table's four corners, and the variance of a
 // window, all as whole numbers (document 01, "Window sums").
 ghost use mathlib.Core.Path.{_≡_};
-ghost use Prim.Native.Nat.{ℕ, _+_, _*_, _^_, _≤_, _<_};
-ghost use lib.IntN.{pos, natAbs, _+ℤ_};
+ghost use Prim.Native.Nat.{_+_, _*_, _^_, _≤_, _<_, min};
+ghost use lib.IntN.{natAbs};
 ghost use lib.ListN.{length, getD, set};
 ghost use Rattle.options.specs.Limits.{sideMost, shiftMost};
 ghost use Rattle.lists.specs.Rows.{levelAt};
-ghost use Rattle.windows.specs.Table.{Sizes, RowReady, nextRow, tableOf, levelIn, squareAt, columnAt, crossIn, crossAt};
+ghost use Rattle.windows.specs.Table.{Sizes, RowReady, nextRow, tableOf, levelIn, squareAt, crossIn, crossAt};
+ghost use Rattle.windows.specs.Sums.{sumTo};
+ghost use Rattle.windows.specs.Parts.{overlapOf, productIn, Columns, sumsBelow};
 ghost use Rattle.windows.specs.Window.{cornerSum, Corners};
 ghost use Rattle.windows.specs.Moments.{varianceOf};
 use lists::clear_u64;
@@ -65,21 +67,75 @@ fn product(a: u8, b: u8) -> u64
     wide(a) * wide(b)
 }
 
-// The level at a column that may lie outside the row, where it is 0.
-fn shifted(levels: &[u8], x: usize, shift: i64) -> u8
-    requires { ⌜ (x ≤ sideMost) × (natAbs shift ≤ shiftMost) ⌝ }
-    ensures { λ r. ⌜ r ≡ columnAt (now (levels .entry)) (pos x +ℤ shift) ⌝ }
+// The columns of a row whose counterparts the other row has too, and where those begin.
+struct Overlap {
+    first: usize,
+    other: usize,
+    count: usize,
+}
+
+fn lesser(a: usize, b: usize) -> usize
+    ensures { λ r. ⌜ r ≡ min a b ⌝ }
 {
-    let at = x as i64 + shift;
-    if at < 0 {
-        return 0;
-    }
-    let column = at as usize;
-    if column < levels.len() {
-        levels[column]
+    if b < a { b } else { a }
+}
+
+// How far apart two columns are.
+pub fn distance(shift: i64) -> usize
+    requires { ⌜ natAbs shift ≤ shiftMost ⌝ }
+    ensures { λ d. ⌜ d ≡ natAbs shift ⌝ }
+{
+    if shift < 0 {
+        (0 - shift) as usize
     } else {
-        0
+        shift as usize
     }
+}
+
+fn overlap_of(n: usize, m: usize, shift: i64) -> Overlap
+    requires { ⌜ natAbs shift ≤ shiftMost ⌝ }
+    ensures { λ o. ⌜ o ≡ overlapOf n m shift ⌝ }
+{
+    let apart = distance(shift);
+    if shift < 0 {
+        let first = lesser(apart, n);
+        let count = lesser(n - first, m);
+        return Overlap {
+            first,
+            other: 0,
+            count,
+        };
+    }
+    let other = lesser(apart, m);
+    let count = lesser(n, m - other);
+    Overlap {
+        first: 0,
+        other,
+        count,
+    }
+}
+
+// Where one of the rows has no pixel the row's sum stays as it is.
+fn add_run(part: &mut [u64], side: usize, first: usize, count: usize, run: u64)
+    requires { ⌜ Columns side first count (now part) × (run < 2 ^ 52) ⌝ }
+    ensures { λ _. ⌜ now (part .exit) ≡ sumsBelow side first count (λ _. run) (now (part .entry)) ⌝ }
+{
+    for i in 0..count {
+        put_below(part, side, first + i, run);
+    }
+}
+
+// Where both rows have one it grows by the product; the whole sum is the result.
+fn add_products(part: &mut [u64], side: usize, first: usize, a: &[u8], b: &[u8]) -> u64
+    requires { ⌜ Columns side first (length (now a)) (now part) × (length (now b) ≡ length (now a)) × (length (now a) ≤ sideMost) ⌝ }
+    ensures { λ run. ⌜ (run ≡ sumTo (length (now (a .entry))) (productIn (now (a .entry)) (now (b .entry)))) × (now (part .exit) ≡ sumsBelow side first (length (now (a .entry))) (λ i. sumTo i (productIn (now (a .entry)) (now (b .entry)))) (now (part .entry))) ⌝ }
+{
+    let mut run: u64 = 0;
+    for i in 0..a.len() {
+        put_below(part, side, first + i, run);
+        run += product(a[i], b[i]);
+    }
+    run
 }
 
 // Fills the second of two rows of a table from the first and the products of a's levels by b's shifted ones.
@@ -88,15 +144,14 @@ fn add_cross(part: &mut [u64], a: &[u8], b: &[u8], shift: i64)
     ensures { λ _. ⌜ now (part .exit) ≡ nextRow (length (now (a .entry))) (crossIn (now (a .entry)) (now (b .entry)) shift) (now (part .entry)) ⌝ }
 {
     let side = a.len() + 1;
-    let mut run: u64 = 0;
-    let mut x = 0;
-    while x < a.len() {
-        put_below(part, side, x, run);
-        let other = shifted(b, x, shift);
-        run += product(a[x], other);
-        x += 1;
-    }
-    put_below(part, side, x, run);
+    let both = overlap_of(a.len(), b.len(), shift);
+    let first = both.first;
+    let other = both.other;
+    let end = first + both.count;
+    let other_end = other + both.count;
+    add_run(part, side, 0, first, 0);
+    let run = add_products(part, side, first, &a[first..end], &b[other..other_end]);
+    add_run(part, side, end, side - end, run);
 }
 
 // The table of the products of a's levels by b's, taken `shift` columns further right.

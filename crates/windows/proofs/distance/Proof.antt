@@ -1,16 +1,14 @@
--- `costs::plane::distance` meets its contract. Assumes nothing.
+-- `windows::distance` meets its contract. Assumes nothing.
 use mathlib.Core.Path.{_≡_, _∙_, ap}
 use native.Mathlib.Omega.{arith}
-use lib.Dec.{T}
 use lib.IntN.{ℤ, pos, natAbs, negℤ, _-ℤ_}
-use lib.Signed.{nonNeg, ltZ}
 use mir.Syntax.{w64}
 use mir.ValLaws.{toZ-ofZ}
 use mir.Val.{SFits, toZ, ofZ}
 use borrow.Author.Needs.{needs}
-use Rattle.costs.proofs.Signed.{abs-neg, small-fits, none-minus, non-neg, neg-non-neg}
-use Rattle.costs.proofs.plane.distance.Statement.{statement}
-use Rattle.costs.proofs.plane.distance.Tie as tie
+use Rattle.windows.proofs.Shifts.{abs-neg, small-fits, none-minus, non-neg, neg-non-neg}
+use Rattle.windows.proofs.distance.Statement.{statement}
+use Rattle.windows.proofs.distance.Tie as tie
 
 -- the shift is read back from its bits, and so is its opposite
 back : (z : tie.Start) → toZ w64 (ofZ w64 (z .args .shift)) ≡ z .args .shift
