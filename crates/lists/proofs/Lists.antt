@@ -96,3 +96,9 @@ pub map-listOf : {A B : Type 0} (f : A → B) (n : ℕ) (g : ℕ → A) → map 
 unfolding listOf
 map-listOf f zero g = refl
 map-listOf f (suc n) g = ap (λ t. f (g 0) ∷ t) (map-listOf f n (λ k. g (suc k)))
+
+-- what stands past the end does not count within a list
+pub any-default : {A : Type 0} (xs : List A) (i : ℕ) (d e : A) → i < length xs → getD xs i d ≡ getD xs i e
+any-default [] i d e h = absurd (not-suc-le-zero h)
+any-default (x ∷ xs) zero d e h = refl
+any-default (x ∷ xs) (suc i) d e h = any-default xs i d e (le-of-suc-le-suc h)

@@ -2,9 +2,9 @@
 use Prim.Native.Nat.{ℕ, zero, suc, _+_, _*_, _/_, _%_, _≤_, _<_}
 use mathlib.Core.Path.{_≡_, refl, sym, ap, _∙_}
 use mathlib.Core.Bool.{Bool, true, false, cond}
-use mathlib.Core.List.{List, [], _∷_}
+use mathlib.Core.List.{List}
 use mathlib.Core.Logic.{⊎-elim}
-use native.Mathlib.Nat.{not-suc-le-zero, le-of-suc-le-suc, mod-lt, div-lt-iff-lt-mul, mul-comm}
+use native.Mathlib.Nat.{mod-lt, div-lt-iff-lt-mul, mul-comm}
 use native.Mathlib.Omega.{arith}
 use borrow.Author.Tests.{lt-ltb, le-ltb}
 use lib.IntN.{ℤ, pos, negsuc}
@@ -12,7 +12,7 @@ use lib.Ieee.{Float, nan, inf, eq}
 use lib.ListN.{length, getD}
 use Rattle.lists.specs.Lists.{listOf, walk}
 use Rattle.lists.specs.Turned.{inRow, columnLeft, turnedCell, turned}
-use Rattle.lists.proofs.Lists.{listOf-same, listOf-at}
+use Rattle.lists.proofs.Lists.{listOf-same, listOf-at, any-default}
 use Rattle.lists.proofs.Rows.{cell-in, pixel-in, row-below, mul-pos-left}
 use Rattle.lists.proofs.Tests.{lt-or-le}
 use Rattle.options.specs.declared.RawCost.{RawCost}
@@ -59,12 +59,7 @@ module _ (w h r : ℕ) (search : Search) (gates : Gates) where
   unfolding blockMap
   flat-map raw flat = listOf-same (w * h) _ _ (flat-cell raw flat)
 
--- the default does not count within a list
-any-default : {A : Type 0} (xs : List A) (i : ℕ) (d e : A) → i < length xs → getD xs i d ≡ getD xs i e
-any-default [] i d e l = absurd (not-suc-le-zero l)
-any-default (x ∷ xs) zero d e l = refl
-any-default (x ∷ xs) (suc i) d e l = any-default xs i d e (le-of-suc-le-suc l)
-
+-- a row whose cells are all what stands for none
 same-in-row : {A : Type 0} (z : A) (w : ℕ) (c : ℤ) (cell : ℕ → A) → ((x : ℕ) → x < w → cell x ≡ z) → inRow z w c cell ≡ z
 unfolding inRow
 same-in-row z w (negsuc n) cell e = refl

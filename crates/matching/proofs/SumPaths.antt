@@ -1,23 +1,18 @@
 -- The matching costs and their path sums in a room of three volumes. Assumes nothing.
 use Prim.Native.Nat.{ℕ, _+_, _*_, _≤_, _<_}
-use mathlib.Core.Path.{_≡_, refl, sym, ap, _∙_, subst}
+use mathlib.Core.Path.{_≡_, sym, ap, _∙_}
 use mathlib.Core.List.{List}
-use mathlib.Core.Logic.{_⊎_, inl, inr, ⊎-elim}
+use mathlib.Core.Logic.{inl, inr}
 use native.Mathlib.Nat.{mul-comm, mul-le-mul}
 use native.Mathlib.Omega.{arith}
 use lib.Ieee.{Float}
-use lib.IntN.{ℤ}
 use lib.ListN.{length}
 use Rattle.lists.specs.Lists.{listOf}
 use Rattle.lists.proofs.Lists.{listOf-length}
 use Rattle.options.specs.Limits.{sideMost, countMost}
-use Rattle.paths.specs.Bounds.{Bounded}
-use Rattle.paths.specs.Cost.{matchingCosts, turnedCosts}
+use Rattle.paths.specs.Cost.{matchingCosts}
 use Rattle.paths.specs.Room.{run, put, Runs, Room}
-use Rattle.paths.specs.Walk.{pathSums}
-use Rattle.paths.proofs.Parts.{length-put, run-put, run-out}
-use Rattle.paths.proofs.Ranges.{sums-length}
-use Rattle.paths.proofs.Turning.{turned-costs-length}
+use Rattle.paths.proofs.Parts.{length-put, run-put}
 use Rattle.matching.specs.Fit.{ThreeVolumes}
 
 pub costs-length : (area count : ℕ) (volume : List Float) → length (matchingCosts area count volume) ≡ area * count
@@ -81,37 +76,3 @@ module _ (w h count : ℕ) (v : List Float) (z : ThreeVolumes (length v) w h cou
 
     pub put-in : run N a u ≡ cells
     put-in = ap (run N a) e ∙ run-put v a cells inside N (sym long)
-
--- the path costs put at p and the sums at s, of the costs at c
-module _ (w h count : ℕ) (p1 p2 : Float) (u : List Float) (c p s : ℕ) (room : Room u (w * h * count) c p s) where
-  abbrev all : ℕ
-  all = w * h * count
-
-  abbrev sums : List Float
-  sums = pathSums w h count p1 p2 (run all c u)
-
-  abbrev M′ : ℕ
-  M′ = count * (w * h)
-
-  module _ (l t : List Float) (long : length l ≡ all) (f : t ≡ put (put u p l) s sums) where
-    paths-fit : p + length l ≤ length u
-    paths-fit = omega (arith, room .costs-paths .b-in)
-
-    under : length (put u p l) ≡ length u
-    under = length-put u p l paths-fit
-
-    sums-fit : s + length sums ≤ length (put u p l)
-    sums-fit = omega (arith, under, sums-length w h count p1 p2 (run all c u), room .costs-sums .b-in)
-
-    pub sums-at : run M′ s t ≡ sums
-    sums-at = ap (run M′ s) f ∙ run-put (put u p l) s sums sums-fit M′ (sym (sums-length w h count p1 p2 (run all c u) ∙ volume-is w h count))
-
-    -- the costs stay
-    pub costs-at : run M′ c t ≡ run all c u
-    costs-at =
-        let e = volume-is w h count in
-        let n = sums-length w h count p1 p2 (run all c u) in
-        ap (run M′ c) f
-        ∙ run-out (put u p l) s sums sums-fit M′ c (omega (arith, under, room .costs-sums .a-in)) (⊎-elim (λ k. inl (omega arith)) (λ k. inr (omega arith)) (room .costs-sums .apart))
-        ∙ run-out u p l paths-fit M′ c (omega (arith, room .costs-paths .a-in)) (⊎-elim (λ k. inl (omega arith)) (λ k. inr (omega arith)) (room .costs-paths .apart))
-        ∙ ap (λ k. run k c u) (sym e)

@@ -1,9 +1,9 @@
 -- The eight directions, and the sums of their path costs. Assumes nothing.
-use Prim.Native.Nat.{ℕ, zero, suc, _+_, _-_, _*_, _<_, _≤_}
+use Prim.Native.Nat.{ℕ, zero, suc, _+_, _*_, _<_, _≤_}
 use mathlib.Core.Path.{_≡_, refl, sym, ap, _∙_}
 use mathlib.Core.Bool.{false}
 use mathlib.Core.List.{List, [], _∷_, _++_, append-assoc}
-use mathlib.Core.Logic.{⊎-elim, inl, inr}
+use mathlib.Core.Logic.{inl, inr}
 use native.Mathlib.Nat.{not-suc-le-zero, le-of-suc-le-suc}
 use native.Mathlib.Numerals.{add-one}
 use native.Mathlib.Omega.{arith}
@@ -15,13 +15,10 @@ use mir.Syntax.{w32}
 use mir.Val.{ofZ, toZ}
 use Rattle.paths.specs.declared.direction.Walk.{Walk}
 use Rattle.paths.specs.Path.{addVec}
-use Rattle.paths.specs.Room.{run, put, Room}
-use Rattle.paths.specs.Walk.{UnitStep, Direction, directions, lastDirection, walkAlong, addPaths, pathSums, pathVolume, zeros}
-use Rattle.paths.proofs.Parts.{length-run, length-put, run-put, run-out, put-run, put-over, put-swap}
-use Rattle.paths.proofs.Steps.{length-sum}
+use Rattle.paths.specs.Room.{run, put, Room, SumsMade}
+use Rattle.paths.specs.Walk.{UnitStep, Direction, directions, walkAlong, addPaths, pathSums, pathVolume, zeros}
+use Rattle.paths.proofs.Parts.{length-run, length-put, run-put, run-out}
 use Rattle.paths.proofs.Places.{unit-same}
-use Rattle.paths.proofs.Walks.{volume-length}
-use Rattle.paths.proofs.Rooms.{same-room, both-length, both-sums, both-costs, put-both}
 
 -- ---- the directions
 
@@ -92,67 +89,33 @@ add-one-path : (along : List ℤ → Walk) (c s : List Float) (k : ℕ) → k < 
 unfolding addPaths
 add-one-path along c s k h = rw (add-one, drop-cons directions k [] h)
 
--- after k directions, from a list v₁ whose sums are zero: the path costs are l, and the sums s
-pub record Added (w h count : ℕ) (p1 p2 : Float) (costs paths sums : ℕ) (v₁ v : List Float) (k : ℕ) : Type 0 where
-  pub l : List Float
-  pub s : List Float
-  pub l-length : length l ≡ w * h * count
-  pub s-length : length s ≡ w * h * count
-  pub is : v ≡ put (put v₁ paths l) sums s
-  pub rest : addPaths (walkAlong w h count p1 p2) (run (w * h * count) costs v₁) s (drop k directions) ≡ pathSums w h count p1 p2 (run (w * h * count) costs v₁)
-  pub last : 0 < k → l ≡ pathVolume (walkAlong w h count p1 p2 (getD directions (k - 1) [])) (run (w * h * count) costs v₁)
+-- after k directions, from a list v₁ whose sums are zero
+pub record Added (w h count : ℕ) (p1 p2 : Float) (costs sums : ℕ) (v₁ v : List Float) (k : ℕ) : Type 0 where
+  pub same-length : length v ≡ length v₁
+  pub same-costs : run (w * h * count) costs v ≡ run (w * h * count) costs v₁
+  pub rest : addPaths (walkAlong w h count p1 p2) (run (w * h * count) costs v₁) (run (w * h * count) sums v) (drop k directions)
+      ≡ pathSums w h count p1 p2 (run (w * h * count) costs v₁)
 
-module _ (w h count : ℕ) (p1 p2 : Float) {costs paths sums : ℕ} {v₁ : List Float} (room : Room v₁ (w * h * count) costs paths sums) where
-  abbrev n : ℕ
-  n = w * h * count
-
-  pub added-none : run n sums v₁ ≡ zeros n → Added w h count p1 p2 costs paths sums v₁ v₁ 0
+module _ (w h count : ℕ) (p1 p2 : Float) {costs sums : ℕ} {v₁ : List Float} where
+  pub added-none : run (w * h * count) sums v₁ ≡ zeros (w * h * count) → Added w h count p1 p2 costs sums v₁ v₁ 0
   unfolding pathSums
   added-none e =
-      let lp = room .paths-sums .a-in in
-      let ls = room .paths-sums .b-in in
+      record { same-length = refl; same-costs = refl; rest = ap (λ (z : List Float). addPaths (walkAlong w h count p1 p2) (run (w * h * count) costs v₁) z directions) e }
+
+  pub added-more : {v : List Float} {k : ℕ} → Added w h count p1 p2 costs sums v₁ v k → k < 8 → (v′ : List Float)
+      → SumsMade v v′ (w * h * count) costs sums
+      (addVec (run (w * h * count) sums v) (pathVolume (walkAlong w h count p1 p2 (getD directions k [])) (run (w * h * count) costs v)))
+      → Added w h count p1 p2 costs sums v₁ v′ (k + 1)
+  added-more {v} {k} a hk v′ e =
+      let n : ℕ = w * h * count in
+      let along = walkAlong w h count p1 p2 in
+      let c = run n costs v₁ in
+      let next : run n sums v′ ≡ addVec (run n sums v) (pathVolume (along (getD directions k [])) c) = rw (a .same-costs) at (e .are-sums) in
       record {
-        l = run n paths v₁;
-        s = run n sums v₁;
-        l-length = length-run n paths v₁ lp;
-        s-length = length-run n sums v₁ ls;
-        is = sym (ap (λ (z : List Float). put z sums (run n sums v₁)) (put-run v₁ paths n lp) ∙ put-run v₁ sums n ls);
-        rest = ap (λ (z : List Float). addPaths (walkAlong w h count p1 p2) (run n costs v₁) z directions) e;
-        last = λ z. absurd (omega arith);
+        same-length = e .same-length ∙ a .same-length;
+        same-costs = e .same-costs ∙ a .same-costs;
+        rest = ap (λ (z : List Float). addPaths along c z (drop (k + 1) directions)) next ∙ add-one-path along c (run n sums v) k hk ∙ a .rest;
       }
-
-  module _ {v : List Float} {k : ℕ} (a : Added w h count p1 p2 costs paths sums v₁ v k) where
-    pub added-length : length v ≡ length v₁
-    added-length = ap length (a .is) ∙ both-length room (a .l) (a .s) (a .l-length) (a .s-length)
-
-    pub added-room : Room v n costs paths sums
-    added-room = same-room room v added-length
-
-    pub added-costs : run (w * h * count) costs v ≡ run (w * h * count) costs v₁
-    added-costs = ap (run n costs) (a .is) ∙ both-costs room (a .l) (a .s) (a .l-length) (a .s-length)
-
-    pub added-more : k < 8 → (v′ : List Float)
-        → v′ ≡ put (put v paths (pathVolume (walkAlong w h count p1 p2 (getD directions k [])) (run n costs v))) sums
-        (addVec (run n sums v) (pathVolume (walkAlong w h count p1 p2 (getD directions k [])) (run n costs v)))
-        → Added w h count p1 p2 costs paths sums v₁ v′ (k + 1)
-    added-more hk v′ e =
-        let c = run n costs v₁ in
-        let next : k ≡ k + 1 - 1 = omega arith in
-        let along = walkAlong w h count p1 p2 in
-        let l′ = pathVolume (along (getD directions k [])) c in
-        let hl′ = volume-length (along (getD directions k [])) c (length-run n costs v₁ (room .costs-paths .a-in)) in
-        let hs′ = length-sum (a .s) l′ ∙ a .s-length in
-        let sums-now : run n sums v ≡ a .s = ap (run n sums) (a .is) ∙ both-sums room (a .l) (a .s) (a .l-length) (a .s-length) in
-        record {
-          l = l′;
-          s = addVec (a .s) l′;
-          l-length = hl′;
-          s-length = hs′;
-          is = rw (added-costs, sums-now) at e ∙ ap (λ (z : List Float). put (put z paths l′) sums (addVec (a .s) l′)) (a .is)
-              ∙ put-both room (a .l) (a .s) (a .l-length) (a .s-length) l′ (addVec (a .s) l′) hl′ hs′;
-          rest = add-one-path along c (a .s) k hk ∙ a .rest;
-          last = λ z. ap (λ (j : ℕ). pathVolume (along (getD directions j [])) c) next;
-        }
 
 -- ---- from a list whose sums were set to zero
 
@@ -185,18 +148,12 @@ module _ (w h count : ℕ) {costs paths sums : ℕ} {v₀ : List Float} (room : 
   pub cleared-costs : run (w * h * count) costs v₁ ≡ run (w * h * count) costs v₀
   cleared-costs = ap (run m costs) e ∙ run-out v₀ sums (zeros m) zeros-in m costs (room .costs-sums .a-in) (rw zeros-length (room .costs-sums .apart))
 
-  pub added-done : {p1 p2 : Float} {v : List Float} → Added w h count p1 p2 costs paths sums v₁ v 8
-      → v ≡ put (put v₀ paths (pathVolume (walkAlong w h count p1 p2 lastDirection) (run (w * h * count) costs v₀))) sums (pathSums w h count p1 p2 (run (w * h * count) costs v₀))
+  pub added-done : {p1 p2 : Float} {v : List Float} → Added w h count p1 p2 costs sums v₁ v 8
+      → SumsMade v₀ v (w * h * count) costs sums (pathSums w h count p1 p2 (run (w * h * count) costs v₀))
   unfolding addPaths
-  added-done {p1} {p2} {v} a =
-      let along = walkAlong w h count p1 p2 in
-      let l-in : paths + length (a .l) ≤ length v₀ = omega (arith, a .l-length, room .paths-sums .a-in) in
-      a .is
-      ∙ ap (λ (z : List Float). put (put z paths (a .l)) sums (a .s)) e
-      ∙ ap (λ (z : List Float). put z sums (a .s))
-      (put-swap v₀ sums (zeros m) paths (a .l) zeros-in l-in
-      (⊎-elim (λ (q : paths + m ≤ sums). inr (omega (arith, a .l-length))) (λ (q : sums + m ≤ paths). inl (omega (arith, zeros-length))) (room .paths-sums .apart)))
-      ∙ put-over (put v₀ paths (a .l)) sums (zeros m) (a .s) (omega (arith, zeros-in, length-put v₀ paths (a .l) l-in)) (a .s-length ∙ sym zeros-length)
-      ∙ ap (λ (z : List Float). put (put v₀ paths z) sums (a .s)) (a .last (omega arith))
-      ∙ ap (λ (z : List Float). put (put v₀ paths (pathVolume (along lastDirection) (run m costs v₁))) sums z) (a .rest)
-      ∙ ap (λ (z : List Float). put (put v₀ paths (pathVolume (along lastDirection) z)) sums (pathSums w h count p1 p2 z)) cleared-costs
+  added-done {p1} {p2} a =
+      record {
+        same-length = a .same-length ∙ cleared-length;
+        same-costs = a .same-costs ∙ cleared-costs;
+        are-sums = a .rest ∙ ap (pathSums w h count p1 p2) cleared-costs;
+      }

@@ -147,14 +147,6 @@ put-inner v a l i r h h′ =
     (λ x o. out-put (put v a l) (a + i) r g x (⊎-elim (λ (q : x < a). inl (omega arith)) (λ (q : a + length (put l i r) ≤ x). inr (omega arith)) o)
     ∙ out-put v a l h x (⊎-elim (λ (q : x < a). inl q) (λ (q : a + length (put l i r) ≤ x). inr (omega arith)) o))
 
--- a run that is replaced twice
-pub put-over : (v : List Float) (a : ℕ) (l r : List Float) → a + length l ≤ length v → length r ≡ length l → put (put v a l) a r ≡ put v a r
-put-over v a l r h e =
-    let f : length (put v a l) ≡ length v = length-put v a l h in
-    let g : a + length r ≤ length (put v a l) = omega arith in
-    same-put v a r (omega arith) (put (put v a l) a r) (length-put (put v a l) a r g ∙ f) (in-put (put v a l) a r g)
-    (λ i o. out-put (put v a l) a r g i o ∙ out-put v a l h i (rw e at o))
-
 -- two runs that have no cell in common
 pub put-swap : (v : List Float) (a : ℕ) (l : List Float) (b : ℕ) (r : List Float) → a + length l ≤ length v → b + length r ≤ length v
     → (a + length l ≤ b) ⊎ (b + length r ≤ a) → put (put v a l) b r ≡ put (put v b r) a l

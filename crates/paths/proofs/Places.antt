@@ -116,7 +116,7 @@ module _ (k : Walk) (p : ℕ) where
 -- ---- the previous pixel has a smaller rank
 
 -- the turn at which pixel p of n is visited
-abbrev rankOf : Bool → ℕ → ℕ → ℕ
+abbrev pub rankOf : Bool → ℕ → ℕ → ℕ
 rankOf f n p = cond f p (n - 1 - p)
 
 abbrev pub rank : Walk → ℕ → ℕ
@@ -182,8 +182,28 @@ module _ (k : Walk) (dir : Direction (k .dx) (k .dy)) (p : ℕ) (hp : p < pixels
       (λ f. rw f (up-row f))
       (λ f. let o = down-row f in rw f (omega (arith, previous-in)))
 
-  pub previous-other : q ≡ p → ⊥
-  previous-other s = let o = previous-earlier in let z : rank k p < rank k p = rw s at o in omega arith
+  -- and fewer than two rows lie between
+  up-near : k .dy ≡ pos 1 → p < q + 2 * w
+  up-near f =
+      let r : places .y + 1 ≡ p / w = from-up (k .h) (p / w) (k .dy) (places .y) f (places .row) in
+      let m : p / w * w ≡ places .y * w + w = ap (λ (i : ℕ). i * w) (sym r ∙ add-one (places .y)) ∙ suc-mul (places .y) w in
+      omega (arith, mod-in, whole, places .is)
+
+  down-near : k .dy ≡ negsuc 0 → q < p + 2 * w
+  down-near f =
+      let r : places .y ≡ p / w + 1 = from-down (k .h) (p / w) (k .dy) (places .y) f (places .row) in
+      let m : places .y * w ≡ p / w * w + w = ap (λ (i : ℕ). i * w) (r ∙ add-one (p / w)) ∙ suc-mul (p / w) w in
+      omega (arith, x-in, whole, places .is)
+
+  level-near : k .dy ≡ pos 0 → (p < q + 2 * w) × (q < p + 2 * w)
+  level-near f = (omega (arith, same-row f, mod-in, whole, places .is), omega (arith, same-row f, x-in, whole, places .is))
+
+  pub previous-near : rank k p < rank k q + 2 * k .w
+  previous-near =
+      by-step (k .dy) (dir .row)
+      (λ f. by-step (k .dx) (dir .column) (λ g. absurd (dir .moves g f)) (λ g. rw (f, g) (level-near f .0)) (λ g. let o = level-near f .1 in rw (f, g) (omega (arith, previous-in))))
+      (λ f. rw f (up-near f))
+      (λ f. let o = down-near f in rw f (omega (arith, previous-in)))
 
 -- the rank tells the pixel
 pub turn-in : (f : Bool) (n t : ℕ) → t < n → cond f t (n - 1 - t) < n

@@ -9,12 +9,13 @@ use lib.ListN.{length, getD}
 use lib.Ieee.{Float, nan}
 use Rattle.paths.specs.declared.direction.Walk.{Walk}
 use Rattle.paths.specs.Path.{addVec}
-use Rattle.paths.specs.Room.{run, put, Runs, Room}
-use Rattle.paths.specs.Walk.{cellsOf, pathOver, pathVolume, pixelsIn, cellsIn, isForward, Direction}
-use Rattle.paths.proofs.Parts.{length-run, getD-run, same-run, length-put, run-put, run-out, put-run, put-inner, put-over, put-swap}
+use Rattle.paths.specs.Room.{run, put, Runs, Room, SumsMade}
+use Rattle.paths.specs.Walk.{cellsOf, slotOf, slotPath, pathVolume, pixelsIn, cellsIn, isForward, Direction}
+use Rattle.paths.proofs.Parts.{length-run, getD-run, same-run, length-put, run-put, run-out, put-run, put-inner, put-swap}
 use Rattle.paths.proofs.Steps.{length-sum}
 use Rattle.paths.proofs.Places.{turn-in}
-use Rattle.paths.proofs.Walks.{cells-end, cells-apart, cells-length, over-length, Visited, visited-none, visited-more, all-done, all-summed}
+use Rattle.paths.proofs.Slots.{slot-in}
+use Rattle.paths.proofs.Walks.{cells-end, cells-apart, cells-length, slot-length, Visited, visited-none, visited-more, all-summed}
 
 -- ---- the runs of pixels in volumes of n pixels of m cells
 
@@ -25,14 +26,18 @@ module _ (v : List Float) (n m : ℕ) (p : ℕ) (hp : p < n) where
       same-run m (p * m) (b + p * m) (run (n * m) b v) v (omega (arith, length-run (n * m) b v hb)) (omega arith)
       (λ k h. let s : b + (p * m + k) ≡ b + p * m + k = omega arith in getD-run (n * m) b v (p * m + k) nan (omega arith) ∙ ap (λ (i : ℕ). getD v i nan) s)
 
-  pub pixel-runs : (a b : ℕ) → Runs v a b (n * m) → Runs v (a + p * m) (b + p * m) m
-  pixel-runs a b r =
+  pub two-runs : (q : ℕ) → q < n → (a b : ℕ) → Runs v a b (n * m) → Runs v (a + p * m) (b + q * m) m
+  two-runs q hq a b r =
       let end = cells-end n m p hp in
+      let end′ = cells-end n m q hq in
       record {
         a-in = omega (arith, r .a-in);
         b-in = omega (arith, r .b-in);
-        apart = ⊎-elim (λ (q : a + n * m ≤ b). inl (omega arith)) (λ (q : b + n * m ≤ a). inr (omega arith)) (r .apart);
+        apart = ⊎-elim (λ (z : a + n * m ≤ b). inl (omega arith)) (λ (z : b + n * m ≤ a). inr (omega arith)) (r .apart);
       }
+
+  pub pixel-runs : (a b : ℕ) → Runs v a b (n * m) → Runs v (a + p * m) (b + p * m) m
+  pixel-runs a b r = two-runs p hp a b r
 
   pub step-runs : (q : ℕ) → q < n → (q ≡ p → ⊥) → (b : ℕ) → b + n * m ≤ length v → Runs v (b + q * m) (b + p * m) m
   step-runs q hq ne b hb =
@@ -42,32 +47,32 @@ module _ (v : List Float) (n m : ℕ) (p : ℕ) (hp : p < n) where
         apart = ⊎-elim (λ (z : q * m + m ≤ p * m). inl (omega arith)) (λ (z : p * m + m ≤ q * m). inr (omega arith)) (cells-apart m p q ne);
       }
 
--- ---- the two stores of a visit
+-- ---- the two stores of a visit: to pixel q's cells of the path costs, and to pixel p's of the sums
 
-module _ {v : List Float} {n m costs paths sums : ℕ} (room : Room v (n * m) costs paths sums) (p : ℕ) (hp : p < n) (vec : List Float) (hl : length vec ≡ m) where
+module _ {v : List Float} {n m costs paths sums : ℕ} (room : Room v (n * m) costs paths sums) (q : ℕ) (hq : q < n) (p : ℕ) (hp : p < n) (vec : List Float) (hl : length vec ≡ m) where
   abbrev first : List Float
-  first = put v (paths + p * m) vec
+  first = put v (paths + q * m) vec
 
-  ends : Runs v (paths + p * m) (sums + p * m) m
-  ends = pixel-runs v n m p hp paths sums (room .paths-sums)
+  ends : Runs v (paths + q * m) (sums + p * m) m
+  ends = two-runs v n m q hq p hp paths sums (room .paths-sums)
 
-  vec-in : paths + p * m + length vec ≤ length v
+  vec-in : paths + q * m + length vec ≤ length v
   vec-in = omega (arith, ends .a-in)
 
-  pub add-runs : Runs (put v (paths + p * m) vec) (paths + p * m) (sums + p * m) m
+  pub add-runs : Runs (put v (paths + q * m) vec) (paths + q * m) (sums + p * m) m
   add-runs =
-      let e : length first ≡ length v = length-put v (paths + p * m) vec vec-in in
+      let e : length first ≡ length v = length-put v (paths + q * m) vec vec-in in
       record { a-in = omega (arith, ends .a-in); b-in = omega (arith, ends .b-in); apart = ends .apart }
 
-  pub both-stores : (v₂ : List Float) → v₂ ≡ put first (sums + p * m) (addVec (run m (sums + p * m) first) (run m (paths + p * m) first))
-      → v₂ ≡ put (put v (paths + p * m) vec) (sums + p * m) (addVec (cellsOf m (run (n * m) sums v) p) vec)
+  pub both-stores : (v₂ : List Float) → v₂ ≡ put first (sums + p * m) (addVec (run m (sums + p * m) first) (run m (paths + q * m) first))
+      → v₂ ≡ put (put v (paths + q * m) vec) (sums + p * m) (addVec (cellsOf m (run (n * m) sums v) p) vec)
   both-stores v₂ e =
       e
-      ∙ ap (λ (q : List Float). put first (sums + p * m) (addVec q (run m (paths + p * m) first)))
-      (run-out v (paths + p * m) vec vec-in m (sums + p * m) (ends .b-in)
-      (⊎-elim (λ (z : paths + p * m + m ≤ sums + p * m). inr (omega arith)) (λ (z : sums + p * m + m ≤ paths + p * m). inl z) (ends .apart))
+      ∙ ap (λ (z : List Float). put first (sums + p * m) (addVec z (run m (paths + q * m) first)))
+      (run-out v (paths + q * m) vec vec-in m (sums + p * m) (ends .b-in)
+      (⊎-elim (λ (z : paths + q * m + m ≤ sums + p * m). inr (omega arith)) (λ (z : sums + p * m + m ≤ paths + q * m). inl z) (ends .apart))
       ∙ sym (cells-in-run v n m p hp sums (room .paths-sums .b-in)))
-      ∙ ap (λ (q : List Float). put first (sums + p * m) (addVec (cellsOf m (run (n * m) sums v) p) q)) (run-put v (paths + p * m) vec vec-in m (sym hl))
+      ∙ ap (λ (z : List Float). put first (sums + p * m) (addVec (cellsOf m (run (n * m) sums v) p) z)) (run-put v (paths + q * m) vec vec-in m (sym hl))
 
 -- ---- two volumes replaced, by l and by s
 
@@ -111,16 +116,6 @@ module _ {v₀ : List Float} {n costs paths sums : ℕ} (room : Room v₀ n cost
   pub put-sums : (i : ℕ) (r : List Float) → i + length r ≤ n → put (put (put v₀ paths l) sums s) (sums + i) r ≡ put (put v₀ paths l) sums (put s i r)
   put-sums i r h = put-inner (put v₀ paths l) sums s i r s-in (omega arith)
 
-  -- both are replaced whole
-  pub put-both : (l′ s′ : List Float) → length l′ ≡ n → length s′ ≡ n → put (put (put (put v₀ paths l) sums s) paths l′) sums s′ ≡ put (put v₀ paths l′) sums s′
-  put-both l′ s′ hl′ hs′ =
-      let e : length (put v₀ paths l′) ≡ length v₀ = length-put v₀ paths l′ (omega (arith, l-in)) in
-      ap (λ (z : List Float). put z sums s′)
-      (put-swap (put v₀ paths l) sums s paths l′ s-in (omega (arith, front-length, l-in))
-      (⊎-elim (λ (q : paths + n ≤ sums). inr (omega arith)) (λ (q : sums + n ≤ paths). inl (omega arith)) (room .paths-sums .apart))
-      ∙ ap (λ (z : List Float). put z sums s) (put-over v₀ paths l l′ l-in (hl′ ∙ sym hl)))
-      ∙ put-over (put v₀ paths l′) sums s s′ (omega (arith, room .paths-sums .b-in)) (hs′ ∙ sym hs)
-
 -- ---- the visit of a whole picture
 
 -- after t turns
@@ -162,35 +157,36 @@ module _ (k : Walk) {costs paths sums : ℕ} {v₀ : List Float} (room : Room v�
     costs-now = ap (run n costs) (w .is) ∙ both-costs room (w .l) (w .s) (w .visited .l-length) (w .visited .s-length)
 
     pub sweep-more : Direction (k .dx) (k .dy) → t < pixelsIn k → (p : ℕ) → p ≡ cond (isForward (k .dx) (k .dy)) t (pixelsIn k - 1 - t) → (v′ : List Float)
-        → v′ ≡ put (put v (paths + p * k .count) (pathOver k (run n paths v) (run n costs v) p)) (sums + p * k .count)
-        (addVec (cellsOf (k .count) (run n sums v) p) (pathOver k (run n paths v) (run n costs v) p))
+        → v′ ≡ put (put v (paths + slotOf (k .w) p * k .count) (slotPath k (run n paths v) (run n costs v) p)) (sums + p * k .count)
+        (addVec (cellsOf (k .count) (run n sums v) p) (slotPath k (run n paths v) (run n costs v) p))
         → Sweep k costs paths sums v₀ v′ (t + 1)
     sweep-more dir ht p ep v′ e =
         let c = run n costs v₀ in
-        let vec = pathOver k (w .l) c p in
+        let vec = slotPath k (w .l) c p in
         let total = addVec (cellsOf (k .count) (w .s) p) vec in
         let hc = length-run n costs v₀ (room .costs-paths .a-in) in
         let hp : p < pixelsIn k = rw ep (turn-in (isForward (k .dx) (k .dy)) (pixelsIn k) t ht) in
+        let slot : ℕ = slotOf (k .w) p in
         let end = cells-end (pixelsIn k) (k .count) p hp in
+        let slot-end = cells-end (pixelsIn k) (k .count) slot (slot-in (k .w) (k .h) p hp) in
         let next = visited-more dir hc (w .visited) ht p ep in
-        let one : List Float = put (w .l) (p * k .count) vec in
+        let one : List Float = put (w .l) (slot * k .count) vec in
         record {
           l = one;
           s = put (w .s) (p * k .count) total;
           is =
               rw (paths-now, costs-now, sums-now) at e
-              ∙ ap (λ (z : List Float). put (put z (paths + p * k .count) vec) (sums + p * k .count) total) (w .is)
+              ∙ ap (λ (z : List Float). put (put z (paths + slot * k .count) vec) (sums + p * k .count) total) (w .is)
               ∙ ap (λ (z : List Float). put z (sums + p * k .count) total)
-              (put-paths room (w .l) (w .s) (w .visited .l-length) (w .visited .s-length) (p * k .count) vec (omega (arith, over-length k c hc (w .l) p hp)))
+              (put-paths room (w .l) (w .s) (w .visited .l-length) (w .visited .s-length) (slot * k .count) vec (omega (arith, slot-length k c hc (w .l) p hp)))
               ∙ put-sums room one (w .s) (next .l-length) (w .visited .s-length) (p * k .count) total
               (omega (arith, length-sum (cellsOf (k .count) (w .s) p) vec, cells-length k (w .s) (w .visited .s-length) p hp));
           visited = next;
         }
 
   pub sweep-done : {v : List Float} → Sweep k costs paths sums v₀ v (pixelsIn k)
-      → v ≡ put (put v₀ paths (pathVolume k (run (cellsIn k) costs v₀))) sums (addVec (run (cellsIn k) sums v₀) (pathVolume k (run (cellsIn k) costs v₀)))
+      → SumsMade v₀ v (cellsIn k) costs sums (addVec (run (cellsIn k) sums v₀) (pathVolume k (run (cellsIn k) costs v₀)))
   sweep-done w =
+      let hc = length-run n costs v₀ (room .costs-paths .a-in) in
       let hs = length-run n sums v₀ (room .paths-sums .b-in) in
-      w .is
-      ∙ ap (λ (z : List Float). put (put v₀ paths z) sums (w .s)) (all-done hs (w .visited))
-      ∙ ap (λ (z : List Float). put (put v₀ paths (pathVolume k (run n costs v₀))) sums z) (all-summed hs (w .visited))
+      record { same-length = sweep-length w; same-costs = costs-now w; are-sums = sums-now w ∙ all-summed hc hs (w .visited) }

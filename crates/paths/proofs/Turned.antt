@@ -12,7 +12,7 @@ use lib.ListN.{length, getD}
 use lib.Seq.{ext-getD}
 use lib.Ieee.{Float, nan, inf, eq}
 use Rattle.lists.specs.Turned.{inRow, columnLeft, turnedCell, turned}
-use Rattle.lists.proofs.Lists.{listOf-at}
+use Rattle.lists.proofs.Lists.{listOf-at, any-default}
 use Rattle.lists.proofs.Rows.{in-column, in-row, pixel-in, mul-pos-left, row-below}
 use Rattle.lists.proofs.Tests.{lt-or-le}
 use Rattle.options.specs.Costs.{rawOf}
@@ -24,12 +24,6 @@ use Rattle.paths.proofs.Blocks.{row-cell}
 use Rattle.paths.proofs.Bounded.{all-at, all-listOf}
 use Rattle.paths.proofs.Ranges.{cost-range}
 use Rattle.paths.proofs.Turning.{in-row-same, turned-costs-length, turned-costs-at}
-
--- what stands past the end does not count within a list
-any-default : {A : Type 0} (xs : List A) (i : ℕ) (d e : A) → i < length xs → getD xs i d ≡ getD xs i e
-any-default [] i d e h = absurd (not-suc-le-zero h)
-any-default (x ∷ xs) zero d e h = refl
-any-default (x ∷ xs) (suc i) d e h = any-default xs i d e (le-of-suc-le-suc h)
 
 -- a function of a cell, or of what stands for one
 in-row-map : {A B : Type 0} (f : A → B) (z : A) (w : ℕ) (c : ℤ) (cell : ℕ → A) → f (inRow z w c cell) ≡ inRow (f z) w c (λ x. f (cell x))

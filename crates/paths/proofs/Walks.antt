@@ -4,10 +4,10 @@ use mathlib.Core.Path.{_≡_, refl, sym, ap, _∙_}
 use mathlib.Core.Bool.{cond}
 use mathlib.Core.List.{List, [], _∷_, _++_}
 use mathlib.Core.Logic.{_⊎_, ⊎-elim, inl, inr}
-use native.Mathlib.Nat.{suc-mul, zero-mul, le-refl}
+use native.Mathlib.Nat.{suc-mul, zero-mul, le-refl, not-suc-le-zero}
 use native.Mathlib.Omega.{arith}
 use lib.ListN.{length, getD, take, drop, length-append, length-drop, take-append-drop}
-use lib.Seq.{drop-drop, ext-getD}
+use lib.Seq.{drop-drop, ext-getD, take-at, drop-at}
 use lib.Ieee.{Float, nan, binary32, add}
 use Rattle.lists.proofs.Rows.{row-in}
 use Rattle.lists.proofs.Tests.{lt-or-le}
@@ -16,10 +16,11 @@ use Rattle.paths.specs.declared.direction.Place.{Place}
 use Rattle.paths.specs.declared.direction.Place.the-variants.{At, Nowhere}
 use Rattle.paths.specs.Path.{stepVec, addVec}
 use Rattle.paths.specs.Room.{run, put}
-use Rattle.paths.specs.Walk.{previousOf, pathFrom, cellsOf, pathOver, pathWithin, pathAt, joined, pathVolume, pixelsIn, cellsIn, isForward, Direction}
+use Rattle.paths.specs.Walk.{previousOf, pathFrom, cellsOf, slotOf, slotPath, pathWithin, pathAt, joined, pathVolume, pixelsIn, cellsIn, isForward, Direction}
 use Rattle.paths.proofs.Parts.{length-run, getD-run, run-put, run-out, length-put}
 use Rattle.paths.proofs.Steps.{length-step, length-sum, getD-sum}
-use Rattle.paths.proofs.Places.{rank, previous-in, previous-earlier, turn-in, rank-turn, rank-one, rank-below}
+use Rattle.paths.proofs.Places.{rank, previous-in, previous-earlier, previous-near, turn-in, rank-turn, rank-one, rank-below}
+use Rattle.paths.proofs.Slots.{slot-in, slot-later}
 
 -- ---- the steps that count are enough
 
@@ -125,12 +126,22 @@ length-joined (suc n) m f h =
     let e : length (f 0) ≡ m = h 0 (omega arith) in
     omega (arith, length-append (f 0) (joined n (λ p. f (suc p))), suc-mul n m)
 
+-- the cells of one of them
+cells-joined : (n m : ℕ) (f : ℕ → List Float) → ((p : ℕ) → p < n → length (f p) ≡ m) → (p : ℕ) → p < n → cellsOf m (joined n f) p ≡ f p
+cells-joined zero m f h p l = absurd (not-suc-le-zero l)
+cells-joined (suc n) m f h zero l = rw zero-mul (take-at (f 0) (joined n (λ q. f (suc q))) m (h 0 l))
+cells-joined (suc n) m f h (suc p) l =
+    let rest : List Float = joined n (λ q. f (suc q)) in
+    sym (cells-later m (f 0 ++ rest) p)
+    ∙ ap (λ (z : List Float). cellsOf m z p) (drop-at (f 0) rest m (h 0 (omega arith)))
+    ∙ cells-joined n m (λ q. f (suc q)) (λ q hq. h (suc q) (omega arith)) p (omega arith)
+
 module _ (k : Walk) (c : List Float) (size : length c ≡ cellsIn k) where
   pub cells-length : (p : ℕ) → p < pixelsIn k → length (cellsOf (k .count) c p) ≡ k .count
   cells-length p hp = length-run (k .count) (p * k .count) c (omega (arith, cells-end (pixelsIn k) (k .count) p hp))
 
-  pub over-length : (l : List Float) (p : ℕ) → p < pixelsIn k → length (pathOver k l c p) ≡ k .count
-  over-length l p hp = length-from k (cellsOf (k .count) l) (cellsOf (k .count) c p) (previousOf k p) ∙ cells-length p hp
+  pub slot-length : (l : List Float) (p : ℕ) → p < pixelsIn k → length (slotPath k l c p) ≡ k .count
+  slot-length l p hp = length-from k (λ q. cellsOf (k .count) l (slotOf (k .w) q)) (cellsOf (k .count) c p) (previousOf k p) ∙ cells-length p hp
 
   pub within-length : (n p : ℕ) → p < pixelsIn k → length (pathWithin k c n p) ≡ k .count
   unfolding pathWithin
@@ -141,19 +152,24 @@ module _ (k : Walk) (c : List Float) (size : length c ≡ cellsIn k) where
   unfolding pathVolume pathAt
   volume-length = length-joined (pixelsIn k) (k .count) (pathAt k c) (λ p hp. within-length (pixelsIn k) p hp)
 
+  volume-cells : (p : ℕ) → p < pixelsIn k → cellsOf (k .count) (pathVolume k c) p ≡ pathAt k c p
+  unfolding pathVolume pathAt
+  volume-cells p hp = cells-joined (pixelsIn k) (k .count) (pathAt k c) (λ q hq. within-length (pixelsIn k) q hq) p hp
+
 -- ---- the visit of a whole picture
 
--- after t turns: the pixels of a rank below t are done, and the sums of the others are as they were
+-- after t turns: the pixels of the last two rows' turns have their path costs in their slots, the pixels of a rank below t have theirs in their sums, and the
+-- sums of the others are as they were
 pub record Visited (k : Walk) (c s₀ l s : List Float) (t : ℕ) : Type 0 where
   pub l-length : length l ≡ cellsIn k
   pub s-length : length s ≡ cellsIn k
-  pub done : (p : ℕ) → p < pixelsIn k → rank k p < t → cellsOf (k .count) l p ≡ pathAt k c p
-  pub summed : (p : ℕ) → p < pixelsIn k → rank k p < t → cellsOf (k .count) s p ≡ addVec (cellsOf (k .count) s₀ p) (cellsOf (k .count) l p)
+  pub kept : (p : ℕ) → p < pixelsIn k → rank k p < t → t ≤ rank k p + 2 * k .w → cellsOf (k .count) l (slotOf (k .w) p) ≡ pathAt k c p
+  pub summed : (p : ℕ) → p < pixelsIn k → rank k p < t → cellsOf (k .count) s p ≡ addVec (cellsOf (k .count) s₀ p) (pathAt k c p)
   pub waiting : (p : ℕ) → p < pixelsIn k → t ≤ rank k p → cellsOf (k .count) s p ≡ cellsOf (k .count) s₀ p
 
 pub visited-none : (k : Walk) (c s₀ l : List Float) → length l ≡ cellsIn k → length s₀ ≡ cellsIn k → Visited k c s₀ l s₀ 0
 visited-none k c s₀ l hl hs =
-    record { l-length = hl; s-length = hs; done = λ p hp r. absurd (omega arith); summed = λ p hp r. absurd (omega arith); waiting = λ p hp r. refl }
+    record { l-length = hl; s-length = hs; kept = λ p hp r near. absurd (omega arith); summed = λ p hp r. absurd (omega arith); waiting = λ p hp r. refl }
 
 -- one turn
 module _ {k : Walk} {c s₀ l s : List Float} {t : ℕ} (dir : Direction (k .dx) (k .dy)) (hc : length c ≡ cellsIn k) (v : Visited k c s₀ l s t) (ht : t < pixelsIn k)
@@ -164,8 +180,11 @@ module _ {k : Walk} {c s₀ l s : List Float} {t : ℕ} (dir : Direction (k .dx)
   abbrev m : ℕ
   m = k .count
 
+  abbrev slot : ℕ
+  slot = slotOf (k .w) p
+
   abbrev vec : List Float
-  vec = pathOver k l c p
+  vec = slotPath k l c p
 
   abbrev total : List Float
   total = addVec (cellsOf m s p) vec
@@ -173,77 +192,72 @@ module _ {k : Walk} {c s₀ l s : List Float} {t : ℕ} (dir : Direction (k .dx)
   hp : p < all
   hp = rw ep (turn-in (isForward (k .dx) (k .dy)) all t ht)
 
+  slot-here : slot < all
+  slot-here = slot-in (k .w) (k .h) p hp
+
   rank-p : rank k p ≡ t
   rank-p = ap (rank k) ep ∙ rank-turn (isForward (k .dx) (k .dy)) all t ht
 
   vec-length : length vec ≡ m
-  vec-length = over-length k c hc l p hp
+  vec-length = slot-length k c hc l p hp
 
   vec-is : vec ≡ pathAt k c p
   vec-is =
-      from-same k (cellsOf m l) (pathAt k c) (cellsOf m c p) (previousOf k p)
-      (λ q e. v .done q (previous-in k dir p hp q e) (omega (arith, previous-earlier k dir p hp q e, rank-p)))
+      from-same k (λ q. cellsOf m l (slotOf (k .w) q)) (pathAt k c) (cellsOf m c p) (previousOf k p)
+      (λ q e. v .kept q (previous-in k dir p hp q e) (omega (arith, previous-earlier k dir p hp q e, rank-p)) (omega (arith, previous-near k dir p hp q e, rank-p)))
       ∙ sym (path-unfolds k c dir p hp)
 
   total-length : length total ≡ m
   total-length = length-sum (cellsOf m s p) vec ∙ cells-length k s (v .s-length) p hp
 
   abbrev l′ : List Float
-  l′ = put l (p * m) vec
+  l′ = put l (slot * m) vec
 
   abbrev s′ : List Float
   s′ = put s (p * m) total
 
-  other : (q : ℕ) → (rank k q ≡ t → ⊥) → q ≡ p → ⊥
-  other q n e = n (ap (rank k) e ∙ rank-p)
-
   at-turn : (q : ℕ) → q < all → rank k q < t + 1 → t ≤ rank k q → q ≡ p
   at-turn q hq r r′ = rank-one (isForward (k .dx) (k .dy)) all q p hq hp (omega (arith, rank-p))
 
-  l-here : cellsOf m l′ p ≡ vec
-  l-here = put-cells all m l p vec hp (v .l-length) vec-length
-
-  l-there : (q : ℕ) → q < all → (rank k q ≡ t → ⊥) → cellsOf m l′ q ≡ cellsOf m l q
-  l-there q hq n = put-others all m l p vec hp (v .l-length) vec-length q hq (other q n)
+  -- a slot that is taken again is that of a pixel two rows before
+  l-there : (q : ℕ) → q < all → rank k q < t → t + 1 ≤ rank k q + 2 * k .w → cellsOf m l′ (slotOf (k .w) q) ≡ cellsOf m l (slotOf (k .w) q)
+  l-there q hq r near =
+      put-others all m l slot vec slot-here (v .l-length) vec-length (slotOf (k .w) q) (slot-in (k .w) (k .h) q hq)
+      (λ e. omega (arith, rank-p, slot-later k q p hq hp e (omega (arith, rank-p))))
 
   s-there : (q : ℕ) → q < all → (rank k q ≡ t → ⊥) → cellsOf m s′ q ≡ cellsOf m s q
-  s-there q hq n = put-others all m s p total hp (v .s-length) total-length q hq (other q n)
+  s-there q hq n = put-others all m s p total hp (v .s-length) total-length q hq (λ e. n (ap (rank k) e ∙ rank-p))
 
-  next-done : (q : ℕ) → q < all → rank k q < t + 1 → cellsOf m l′ q ≡ pathAt k c q
-  next-done q hq r =
-      ⊎-elim (λ (b : rank k q < t). l-there q hq (λ e. omega arith) ∙ v .done q hq b) (λ (b : t ≤ rank k q). rw (at-turn q hq r b) (l-here ∙ vec-is)) (lt-or-le (rank k q) t)
-
-  next-summed : (q : ℕ) → q < all → rank k q < t + 1 → cellsOf m s′ q ≡ addVec (cellsOf m s₀ q) (cellsOf m l′ q)
-  next-summed q hq r =
-      ⊎-elim
-      (λ (b : rank k q < t). s-there q hq (λ e. omega arith) ∙ v .summed q hq b ∙ ap (addVec (cellsOf m s₀ q)) (sym (l-there q hq (λ e. omega arith))))
-      (λ (b : t ≤ rank k q). rw (at-turn q hq r b)
-      (put-cells all m s p total hp (v .s-length) total-length
-      ∙ ap (λ (u : List Float). addVec u vec) (v .waiting p hp (omega (arith, rank-p))) ∙ ap (addVec (cellsOf m s₀ p)) (sym l-here)))
+  next-kept : (q : ℕ) → q < all → rank k q < t + 1 → t + 1 ≤ rank k q + 2 * k .w → cellsOf m l′ (slotOf (k .w) q) ≡ pathAt k c q
+  next-kept q hq r near =
+      ⊎-elim (λ (b : rank k q < t). l-there q hq b near ∙ v .kept q hq b (omega arith))
+      (λ (b : t ≤ rank k q). rw (at-turn q hq r b) (put-cells all m l slot vec slot-here (v .l-length) vec-length ∙ vec-is))
       (lt-or-le (rank k q) t)
 
-  pub visited-more : Visited k c s₀ (put l (p * k .count) (pathOver k l c p)) (put s (p * k .count) (addVec (cellsOf (k .count) s p) (pathOver k l c p))) (t + 1)
+  next-summed : (q : ℕ) → q < all → rank k q < t + 1 → cellsOf m s′ q ≡ addVec (cellsOf m s₀ q) (pathAt k c q)
+  next-summed q hq r =
+      ⊎-elim (λ (b : rank k q < t). s-there q hq (λ e. omega arith) ∙ v .summed q hq b)
+      (λ (b : t ≤ rank k q). rw (at-turn q hq r b)
+      (put-cells all m s p total hp (v .s-length) total-length
+      ∙ ap (λ (u : List Float). addVec u vec) (v .waiting p hp (omega (arith, rank-p))) ∙ ap (addVec (cellsOf m s₀ p)) vec-is))
+      (lt-or-le (rank k q) t)
+
+  pub visited-more : Visited k c s₀ (put l (slotOf (k .w) p * k .count) (slotPath k l c p)) (put s (p * k .count) (addVec (cellsOf (k .count) s p) (slotPath k l c p))) (t + 1)
   visited-more =
       record {
-        l-length = put-length all m l p vec hp (v .l-length) vec-length;
+        l-length = put-length all m l slot vec slot-here (v .l-length) vec-length;
         s-length = put-length all m s p total hp (v .s-length) total-length;
-        done = next-done;
+        kept = next-kept;
         summed = next-summed;
         waiting = λ q hq r. s-there q hq (λ e. omega arith) ∙ v .waiting q hq (omega arith);
       }
 
 -- after the last turn
-module _ {k : Walk} {c s₀ l s : List Float} (hs : length s₀ ≡ cellsIn k) (v : Visited k c s₀ l s (pixelsIn k)) where
-  below : (p : ℕ) → p < pixelsIn k → rank k p < pixelsIn k
-  below p hp = rank-below (isForward (k .dx) (k .dy)) (pixelsIn k) p hp
-
-  pub all-done : l ≡ pathVolume k c
-  unfolding pathVolume
-  all-done = from-cells (pixelsIn k) (k .count) l (pathAt k c) (v .l-length) (λ p hp. v .done p hp (below p hp))
-
+module _ {k : Walk} {c s₀ l s : List Float} (hc : length c ≡ cellsIn k) (hs : length s₀ ≡ cellsIn k) (v : Visited k c s₀ l s (pixelsIn k)) where
   pub all-summed : s ≡ addVec s₀ (pathVolume k c)
   all-summed =
-      same-cells (pixelsIn k) (k .count) s (addVec s₀ l) (v .s-length) (length-sum s₀ l ∙ hs)
+      same-cells (pixelsIn k) (k .count) s (addVec s₀ (pathVolume k c)) (v .s-length) (length-sum s₀ (pathVolume k c) ∙ hs)
       (λ p hp. let end = cells-end (pixelsIn k) (k .count) p hp in
-      v .summed p hp (below p hp) ∙ sym (run-sum (k .count) (p * k .count) s₀ l (omega arith) (omega (arith, v .l-length))))
-      ∙ ap (addVec s₀) all-done
+      v .summed p hp (rank-below (isForward (k .dx) (k .dy)) (pixelsIn k) p hp)
+      ∙ ap (addVec (cellsOf (k .count) s₀ p)) (sym (volume-cells k c hc p hp))
+      ∙ sym (run-sum (k .count) (p * k .count) s₀ (pathVolume k c) (omega arith) (omega (arith, volume-length k c hc))))

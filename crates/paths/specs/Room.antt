@@ -1,5 +1,6 @@
 -- Runs of cells in one list: the raw costs, the matching costs, the path costs and the sums all lie in one room. Definitions only.
 use Prim.Native.Nat.{ℕ, zero, suc, _+_, _*_, _≤_}
+use mathlib.Core.Path.{_≡_}
 use mathlib.Core.List.{List, _++_}
 use mathlib.Core.Logic.{_⊎_}
 use lib.ListN.{length, take, drop, set}
@@ -35,3 +36,9 @@ pub record Room (v : List Float) (n costs paths sums : ℕ) : Type 0 where
   pub costs-paths : Runs v costs paths n
   pub costs-sums : Runs v costs sums n
   pub paths-sums : Runs v paths sums n
+
+-- what v₀ has become: of the same length, with the same n costs, and with the sums s; of other cells nothing is said
+pub record SumsMade (v₀ v : List Float) (n costs sums : ℕ) (s : List Float) : Type 0 where
+  pub same-length : length v ≡ length v₀
+  pub same-costs : run n costs v ≡ run n costs v₀
+  pub are-sums : run n sums v ≡ s

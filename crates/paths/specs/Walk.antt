@@ -57,6 +57,27 @@ pathWithin k c (suc n) p = pathFrom k (pathWithin k c n) (cellsOf (k .count) c p
 abbrev pub ReadyAt : Walk → List Float → ℕ → Type 0
 ReadyAt k l p = (q : ℕ) → previousOf k p ≡ At q → All (UpTo 1027) (cellsOf (k .count) l q)
 
+-- the row of slots for row y: two are used by turns, since a step reads its own row or the one visited before
+abbrev pub slotRow : ℕ → ℕ
+slotRow y = y % 2
+
+-- the slot where L at pixel p is kept
+unfoldable pub slotOf : ℕ → ℕ → ℕ
+slotOf w p = slotRow (p / w) * w + p % w
+
+-- the slot of a pixel that may be off the picture
+abbrev pub slotIn : ℕ → Place → Place
+slotIn w (At p) = At (slotOf w p)
+slotIn w Nowhere = Nowhere
+
+-- L at pixel p, where L at the previous pixel stands in its slot of l
+abbrev pub slotPath : Walk → List Float → List Float → ℕ → List Float
+slotPath k l c p = pathFrom k (λ q. cellsOf (k .count) l (slotOf (k .w) q)) (cellsOf (k .count) c p) (previousOf k p)
+
+-- what stands in the slot of the pixel before p is known to be in the range of path costs
+abbrev pub SlotReady : Walk → List Float → ℕ → Type 0
+SlotReady k l p = (q : ℕ) → previousOf k p ≡ At q → All (UpTo 1027) (cellsOf (k .count) l (slotOf (k .w) q))
+
 -- how many pixels there are
 abbrev pub pixelsIn : Walk → ℕ
 pixelsIn k = k .w * k .h

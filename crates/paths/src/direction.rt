@@ -5,13 +5,13 @@ ghost use Prim.Native.Nat.{_+_, _-_, _*_, _^_, _<_};
 ghost use lib.Dec.{ltb};
 ghost use Rattle.paths.specs.Bounds.{Bounded};
 ghost use Rattle.paths.specs.Path.{addVec};
-ghost use Rattle.paths.specs.Room.{run, put, Runs, Room};
-ghost use Rattle.paths.specs.Walk.{stepBack, previousOf, cellsOf, pathOver, ReadyAt, pathVolume, isForward, UnitStep, Direction, pixelsIn, cellsIn};
+ghost use Rattle.paths.specs.Room.{run, put, Runs, Room, SumsMade};
+ghost use Rattle.paths.specs.Walk.{stepBack, previousOf, cellsOf, slotOf, slotIn, slotPath, SlotReady, pathVolume, isForward, UnitStep, Direction, pixelsIn, cellsIn};
 use crate::pixel::add_path;
 use crate::pixel::path_pixel;
 use crate::pixel::path_start;
 
-// A place on a line, or a pixel, that may be off the picture.
+// A place on a line, a pixel or its slot, that may be off the picture.
 pub enum Place {
     At(usize),
     Nowhere,
@@ -48,10 +48,19 @@ fn step_back(n: usize, step: i32, x: usize) -> Place
     Place::Nowhere
 }
 
-// The previous pixel of the pixel in column x of row y.
+// The slot for the path costs of the pixel in column x of row y. Two rows of slots are used by turns: a step reads its own
+// row or the one visited before, so that what it reads is still in the cache.
+fn slot_of(w: usize, x: usize, y: usize) -> usize
+    requires { ⌜ (x < w) × (y * w + x < 2 ^ 64) ⌝ }
+    ensures { λ r. ⌜ r ≡ slotOf w (y * w + x) ⌝ }
+{
+    (y % 2) * w + x
+}
+
+// The slot of the previous pixel of the pixel in column x of row y.
 fn previous(walk: Walk, x: usize, y: usize) -> Place
     requires { ⌜ Direction (walk .dx) (walk .dy) × (x < walk .w) × (y < walk .h) × (pixelsIn walk < 2 ^ 64) ⌝ }
-    ensures { λ r. ⌜ r ≡ previousOf walk (y * walk .w + x) ⌝ }
+    ensures { λ r. ⌜ r ≡ slotIn (walk .w) (previousOf walk (y * walk .w + x)) ⌝ }
 {
     let w = walk.w;
     let Place::At(column) = step_back(w, walk.dx, x) else {
@@ -60,7 +69,7 @@ fn previous(walk: Walk, x: usize, y: usize) -> Place
     let Place::At(row) = step_back(walk.h, walk.dy, y) else {
         return Place::Nowhere;
     };
-    Place::At(row * w + column)
+    Place::At(slot_of(w, column, row))
 }
 
 // Whether the previous pixel has a smaller number, so that pixels are visited upwards.
@@ -98,16 +107,16 @@ fn next_line(n: usize, i: usize, j: usize) -> usize
     if i + 1 < n { j } else { j + 1 }
 }
 
-// The path costs of the pixel in column x of row y, from those of the previous pixel, which is done.
+// The path costs of the pixel in column x of row y, from those in the slot of the previous pixel, which is done.
 fn path_at(v: &mut [f32], costs: usize, paths: usize, walk: Walk, x: usize, y: usize)
     requires { ⌜ Direction (walk .dx) (walk .dy) ⌝ }
-    requires { ⌜ (0 < walk .count) × (x < walk .w) × (y < walk .h) × Runs (now v) costs paths (cellsIn walk) × ReadyAt walk (run (cellsIn walk) paths (now v)) (y * walk .w + x) ⌝ }
-    ensures { λ _. ⌜ now (v .exit) ≡ put (now (v .entry)) (paths + (y * walk .w + x) * walk .count) (pathOver walk (run (cellsIn walk) paths (now (v .entry))) (run (cellsIn walk) costs (now (v .entry))) (y * walk .w + x)) ⌝ }
+    requires { ⌜ (0 < walk .count) × (x < walk .w) × (y < walk .h) × Runs (now v) costs paths (cellsIn walk) × SlotReady walk (run (cellsIn walk) paths (now v)) (y * walk .w + x) ⌝ }
+    ensures { λ _. ⌜ now (v .exit) ≡ put (now (v .entry)) (paths + slotOf (walk .w) (y * walk .w + x) * walk .count) (slotPath walk (run (cellsIn walk) paths (now (v .entry))) (run (cellsIn walk) costs (now (v .entry))) (y * walk .w + x)) ⌝ }
 {
     let count = walk.count;
-    let p = y * walk.w + x;
-    let cost = costs + p * count;
-    let at = paths + p * count;
+    let w = walk.w;
+    let cost = costs + (y * w + x) * count;
+    let at = paths + slot_of(w, x, y) * count;
     let from = previous(walk, x, y);
     match from {
         Place::At(q) => path_pixel(v, paths + q * count, cost, at, count, walk.p1, walk.p2),
@@ -115,7 +124,7 @@ fn path_at(v: &mut [f32], costs: usize, paths: usize, walk: Walk, x: usize, y: u
     }
 }
 
-// Visits the pixel in column x of row y: its path costs, and these added to its sums.
+// Visits the pixel in column x of row y: its path costs go to its slot, and are added to its sums.
 fn path_visit(
     v: &mut [f32],
     costs: usize,
@@ -126,21 +135,23 @@ fn path_visit(
     y: usize,
 )
     requires { ⌜ Direction (walk .dx) (walk .dy) ⌝ }
-    requires { ⌜ (0 < walk .count) × (x < walk .w) × (y < walk .h) × Room (now v) (cellsIn walk) costs paths sums × ReadyAt walk (run (cellsIn walk) paths (now v)) (y * walk .w + x) ⌝ }
-    ensures { λ _. ⌜ (let p = y * walk .w + x in let l = pathOver walk (run (cellsIn walk) paths (now (v .entry))) (run (cellsIn walk) costs (now (v .entry))) p in now (v .exit) ≡ put (put (now (v .entry)) (paths + p * walk .count) l) (sums + p * walk .count) (addVec (cellsOf (walk .count) (run (cellsIn walk) sums (now (v .entry))) p) l)) ⌝ }
+    requires { ⌜ (0 < walk .count) × (x < walk .w) × (y < walk .h) × Room (now v) (cellsIn walk) costs paths sums × SlotReady walk (run (cellsIn walk) paths (now v)) (y * walk .w + x) ⌝ }
+    ensures { λ _. ⌜ (let p = y * walk .w + x in let l = slotPath walk (run (cellsIn walk) paths (now (v .entry))) (run (cellsIn walk) costs (now (v .entry))) p in now (v .exit) ≡ put (put (now (v .entry)) (paths + slotOf (walk .w) p * walk .count) l) (sums + p * walk .count) (addVec (cellsOf (walk .count) (run (cellsIn walk) sums (now (v .entry))) p) l)) ⌝ }
 {
     path_at(v, costs, paths, walk, x, y);
     let count = walk.count;
-    let p = y * walk.w + x;
-    add_path(v, paths + p * count, sums + p * count, count);
+    let w = walk.w;
+    let from = paths + slot_of(w, x, y) * count;
+    let to = sums + (y * w + x) * count;
+    add_path(v, from, to, count);
 }
 
-// The path costs of every pixel along one direction, each added to its sums. Turn i of line j is kept beside the number of
-// the turn, so that no turn divides.
+// The path costs of every pixel along one direction, each added to its sums; they themselves are kept for two rows only.
+// Turn i of line j is kept beside the number of the turn, so that no turn divides.
 pub fn path_direction(v: &mut [f32], costs: usize, paths: usize, sums: usize, walk: Walk)
     requires { ⌜ Direction (walk .dx) (walk .dy) ⌝ }
     requires { ⌜ (0 < walk .count) × Room (now v) (cellsIn walk) costs paths sums × Bounded (walk .p1) (walk .p2) (run (cellsIn walk) costs (now v)) ⌝ }
-    ensures { λ _. ⌜ (let l = pathVolume walk (run (cellsIn walk) costs (now (v .entry))) in now (v .exit) ≡ put (put (now (v .entry)) paths l) sums (addVec (run (cellsIn walk) sums (now (v .entry))) l)) ⌝ }
+    ensures { λ _. ⌜ SumsMade (now (v .entry)) (now (v .exit)) (cellsIn walk) costs sums (addVec (run (cellsIn walk) sums (now (v .entry))) (pathVolume walk (run (cellsIn walk) costs (now (v .entry))))) ⌝ }
 {
     let pixels = walk.w * walk.h;
     let w = walk.w;

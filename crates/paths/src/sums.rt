@@ -1,9 +1,8 @@
 // The sums of the path costs of the eight directions.
-ghost use mathlib.Core.Path.{_≡_};
 ghost use Prim.Native.Nat.{_*_, _<_};
 ghost use Rattle.paths.specs.Bounds.{Bounded};
-ghost use Rattle.paths.specs.Room.{run, put, Room};
-ghost use Rattle.paths.specs.Walk.{pathVolume, pathSums, walkAlong, lastDirection};
+ghost use Rattle.paths.specs.Room.{run, Room, SumsMade};
+ghost use Rattle.paths.specs.Walk.{pathSums};
 use crate::direction::Walk;
 use crate::direction::path_direction;
 use lists::clear_f32;
@@ -20,8 +19,8 @@ const DIRECTIONS: [[i32; 2]; 8] = [
     [-1, -1],
 ];
 
-// The sums of the path costs of the eight directions, from the matching costs at `costs`. The path costs of the last
-// direction stay in their volume.
+// The sums of the path costs of the eight directions, from the matching costs at `costs`. What the cells at `paths` hold in
+// the end is not told.
 pub fn aggregate_sgm(
     v: &mut [f32],
     costs: usize,
@@ -34,7 +33,7 @@ pub fn aggregate_sgm(
     p2: f32,
 )
     requires { ⌜ (0 < count) × Room (now v) (w * h * count) costs paths sums × Bounded p1 p2 (run (w * h * count) costs (now v)) ⌝ }
-    ensures { λ _. ⌜ (let c = run (w * h * count) costs (now (v .entry)) in now (v .exit) ≡ put (put (now (v .entry)) paths (pathVolume (walkAlong w h count p1 p2 lastDirection) c)) sums (pathSums w h count p1 p2 c)) ⌝ }
+    ensures { λ _. ⌜ SumsMade (now (v .entry)) (now (v .exit)) (w * h * count) costs sums (pathSums w h count p1 p2 (run (w * h * count) costs (now (v .entry)))) ⌝ }
 {
     let end = sums + w * h * count;
     clear_f32(&mut v[sums..end]);

@@ -1,5 +1,5 @@
 -- `matching::direction::sum_paths` meets its contract. Assumes nothing.
-use Prim.Native.Nat.{_+_, _*_, _≤_}
+use Prim.Native.Nat.{ℕ, _+_, _*_, _≤_}
 use mathlib.Core.Path.{_≡_, sym, ap, _∙_, subst}
 use mathlib.Core.List.{List}
 use native.Mathlib.Omega.{arith}
@@ -10,8 +10,7 @@ use Rattle.paths.specs.Bounds.{Bounded}
 use Rattle.paths.specs.Cost.{matchingCosts}
 use Rattle.paths.specs.Room.{run}
 use Rattle.paths.specs.Walk.{pathSums}
-use Rattle.paths.proofs.Walks.{volume-length}
-use Rattle.matching.proofs.SumPaths.{costs-length, area-most, volume-most, raw-runs, costs-first, put-kept, put-in, sums-at, costs-at}
+use Rattle.matching.proofs.SumPaths.{costs-length, volume-is, area-most, volume-most, raw-runs, costs-first, put-kept, put-in}
 use borrow.Author.Needs.{needs}
 use Rattle.matching.proofs.direction.sum_paths.Statement.{statement}
 use Rattle.matching.proofs.direction.sum_paths.Tie as tie
@@ -53,10 +52,9 @@ returns c =
     let z = c .before .before .before .before .before .before .before .before .before in
     let f = c .before .before .before .before .before .before in
     let a = c .before .before .aggregate-sgm in
-    let room = costs-first (z .args .w) (z .args .h) (z .args .count) (now (z .args .room)) (z .pre .0) _ (kept f) in
-    let long = volume-length _ _ (ap length (held f) ∙ costs-length (z .args .w * z .args .h) (z .args .count) _) in (
-      sums-at (z .args .w) (z .args .h) (z .args .count) (z .args .p1) (z .args .p2) _ _ _ _ room _ _ long (a .ensures) ∙ ap (pathSums (z .args .w) (z .args .h) (z .args .count) (z .args .p1) (z .args .p2)) (held f),
-      costs-at (z .args .w) (z .args .h) (z .args .count) (z .args .p1) (z .args .p2) _ _ _ _ room _ _ long (a .ensures) ∙ held f,
+    let same = sym (volume-is (z .args .w) (z .args .h) (z .args .count)) in (
+      ap (λ (n : ℕ). run n (z .args .count * (z .args .w * z .args .h)) (a .last .0)) same ∙ a .ensures .are-sums ∙ ap (pathSums (z .args .w) (z .args .h) (z .args .count) (z .args .p1) (z .args .p2)) (held f),
+      ap (λ (n : ℕ). run n 0 (a .last .0)) same ∙ a .ensures .same-costs ∙ held f,
     )
 
 pub sum-paths-spec : {M : Type 1} → statement M

@@ -11,8 +11,7 @@ use Rattle.paths.specs.Cost.{turnedCosts}
 use Rattle.paths.specs.Room.{run}
 use Rattle.paths.specs.Walk.{pathSums}
 use Rattle.paths.proofs.Turning.{turned-costs-length}
-use Rattle.paths.proofs.Walks.{volume-length}
-use Rattle.matching.proofs.SumPaths.{volume-is, area-most, volume-most, turn-runs, sums-first, put-kept, put-in, sums-at}
+use Rattle.matching.proofs.SumPaths.{volume-is, area-most, volume-most, turn-runs, sums-first, put-kept, put-in}
 use borrow.Author.Needs.{needs}
 use Rattle.matching.proofs.direction.sum_turned.Statement.{statement}
 use Rattle.matching.proofs.direction.sum_turned.Tie as tie
@@ -56,9 +55,9 @@ returns c =
     let z = c .before .before .before .before .before .before .before .before .before in
     let f = c .before .before .before .before .before .before in
     let a = c .before .before .aggregate-sgm in
-    let room = sums-first (z .args .turn .w) (z .args .turn .h) (z .args .turn .count) (now (z .args .room)) (z .pre .0) _ (kept f) in
-    let long = volume-length _ _ (ap length (held f) ∙ turned-costs-length (z .args .turn .w) (z .args .turn .h) (z .args .turn .first) (z .args .turn .count) _) in
-    sums-at (z .args .turn .w) (z .args .turn .h) (z .args .turn .count) (z .args .p1) (z .args .p2) _ _ _ _ room _ _ long (a .ensures) ∙ ap (pathSums (z .args .turn .w) (z .args .turn .h) (z .args .turn .count) (z .args .p1) (z .args .p2)) (held f)
+    ap (λ (n : ℕ). run n 0 (a .last .0)) (sym (volume-is (z .args .turn .w) (z .args .turn .h) (z .args .turn .count)))
+    ∙ a .ensures .are-sums
+    ∙ ap (pathSums (z .args .turn .w) (z .args .turn .h) (z .args .turn .count) (z .args .p1) (z .args .p2)) (held f)
 
 pub sum-turned-spec : {M : Type 1} → statement M
 sum-turned-spec =

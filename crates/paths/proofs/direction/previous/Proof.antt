@@ -1,4 +1,4 @@
--- `paths::direction::previous` meets its contract: one step back on the line and on the column. Assumes nothing.
+-- `paths::direction::previous` meets its contract: one step back on the line and on the column, and the slot there. Assumes nothing.
 use Prim.Native.Nat.{ℕ, _+_, _*_, _/_, _%_, _<_}
 use mathlib.Core.Path.{_≡_, sym, ap, _∙_}
 use native.Mathlib.Omega.{arith}
@@ -6,7 +6,7 @@ use borrow.Author.Needs.{needs}
 use lib.IntN.{ℤ}
 use Rattle.lists.proofs.Rows.{in-column, in-row, pixel-in}
 use Rattle.paths.specs.declared.direction.Place.the-variants.{At}
-use Rattle.paths.specs.Walk.{stepBack}
+use Rattle.paths.specs.Walk.{stepBack, slotIn}
 use Rattle.paths.proofs.Places.{unit-same, unit-back, back-in, no-column, no-row, both-places}
 use Rattle.paths.proofs.direction.previous.Statement.{statement}
 use Rattle.paths.proofs.direction.previous.Tie as tie
@@ -41,13 +41,19 @@ left c = c .before .before .before .before .before
 found-row : (c : tie.After-row) → let s = start (c .before .before) in stepBack (s .args .walk .h) (s .args .walk .dy) (pixel s / s .args .walk .w) ≡ At (c .row .given .0 .0)
 found-row c = sym (at-row (c .before .before)) ∙ c .row .given .1
 
+column-in : (c : tie.After-row) → left c .column .given .0 .0 < start (c .before .before) .args .walk .w
+column-in c =
+    let s = start (c .before .before) in
+    let k = s .args .walk in
+    back-in (k .w) (pixel s % k .w) (k .dx) (left c .column .given .0 .0) (found-column (left c))
+
 in-picture : (c : tie.After-row) → let k = start (c .before .before) .args .walk in c .row .given .0 .0 * k .w + left c .column .given .0 .0 < k .w * k .h
 in-picture c =
     let s = start (c .before .before) in
     let k = s .args .walk in
     let x = left c .column .given .0 .0 in
     let y = c .row .given .0 .0 in
-    pixel-in (k .w) (k .h) x y (back-in (k .w) (pixel s % k .w) (k .dx) x (found-column (left c))) (back-in (k .h) (pixel s / k .w) (k .dy) y (found-row c))
+    pixel-in (k .w) (k .h) x y (column-in c) (back-in (k .h) (pixel s / k .w) (k .dy) y (found-row c))
 
 step-back-requires : tie.Need-step-back-requires
 step-back-requires c κs = let s = c .before in (unit-back (s .args .walk .dx) (s .pre .0 .column), s .pre .1)
@@ -62,7 +68,7 @@ returns : tie.Need-returns
 returns c =
     let d = c .before .before in
     let s = d .before .before in
-    sym (no-column (s .args .walk) (pixel s) (sym (at-column d) ∙ c .enum-told .given .1))
+    sym (ap (slotIn (s .args .walk .w)) (no-column (s .args .walk) (pixel s) (sym (at-column d) ∙ c .enum-told .given .1)))
 
 step-back-requires-2 : tie.Need-step-back-requires-2
 step-back-requires-2 c κs = let s = c .before .before .before .before .before .before in (unit-back (s .args .walk .dy) (s .pre .0 .row), s .pre .2)
@@ -78,19 +84,18 @@ returns-2 c =
     let d = c .before .before in
     let s = start d in
     let f = d .before .before .before in
-    sym (no-row (s .args .walk) (pixel s) (f .column .given .0 .0) (found-column f) (sym (at-row d) ∙ c .enum-told2 .given .1))
+    sym (ap (slotIn (s .args .walk .w)) (no-row (s .args .walk) (pixel s) (f .column .given .0 .0) (found-column f) (sym (at-row d) ∙ c .enum-told2 .given .1)))
 
-mul-t9 : tie.Need-mul-t9
-mul-t9 c = omega (arith, in-picture (c .before), start (c .before .before .before) .pre .3)
-
-add-t10 : tie.Need-add-t10
-add-t10 c = omega (arith, in-picture (c .before), start (c .before .before .before) .pre .3)
+slot-of-requires : tie.Need-slot-of-requires
+slot-of-requires c κs = let d = c .before in (column-in d, omega (arith, in-picture d, start (d .before .before) .pre .3))
 
 returns-3 : tie.Need-returns-3
 returns-3 c =
-    let d = c .before in
+    let d = c .before .before in
     let s = start (d .before .before) in
-    sym (both-places (s .args .walk) (pixel s) (left d .column .given .0 .0) (d .row .given .0 .0) (found-column (left d)) (found-row d))
+    let k = s .args .walk in
+    ap At (c .slot-of .ensures)
+    ∙ sym (ap (slotIn (k .w)) (both-places k (pixel s) (left d .column .given .0 .0) (d .row .given .0 .0) (found-column (left d)) (found-row d)))
 
 pub previous-spec : {M : Type 1} → statement M
 previous-spec =
@@ -104,6 +109,5 @@ previous-spec =
     enum-known-row
     enum-told-2
     returns-2
-    mul-t9
-    add-t10
+    slot-of-requires
     returns-3)

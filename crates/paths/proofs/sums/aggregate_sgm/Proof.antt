@@ -1,6 +1,6 @@
 -- `paths::sums::aggregate_sgm` meets its contract: after k turns k directions are added. Assumes nothing.
 use Prim.Native.Nat.{_+_, _-_, _*_, _<_, _≤_}
-use mathlib.Core.Path.{_≡_, ap, _∙_}
+use mathlib.Core.Path.{_≡_, _∙_, subst}
 use mathlib.Core.List.{List}
 use native.Mathlib.Nat.{le-mul-of-pos-right}
 use native.Mathlib.Omega.{arith}
@@ -10,15 +10,15 @@ use denote.Ref.{now}
 use lib.Ieee.{Float}
 use Rattle.paths.specs.declared.direction.Walk.{Walk}
 use Rattle.paths.specs.Path.{addVec}
-use Rattle.paths.specs.Room.{run, put, Room}
+use Rattle.paths.specs.Room.{run, put, SumsMade}
 use Rattle.paths.specs.Walk.{pathVolume, zeros}
 use Rattle.paths.proofs.Rooms.{same-room}
-use Rattle.paths.proofs.Added.{same-direction, same-walk, Added, added-none, added-length, added-room, added-costs, added-more, added-done, cleared-length, cleared-sums, cleared-costs, zeroed}
+use Rattle.paths.proofs.Added.{same-direction, same-walk, Added, added-none, added-more, added-done, cleared-length, cleared-sums, cleared-costs, zeroed}
 use Rattle.paths.proofs.sums.aggregate_sgm.Statement.{statement}
 use Rattle.paths.proofs.sums.aggregate_sgm.Tie as tie
 
 abbrev Inv-loop : tie.InvT-loop
-Inv-loop v₀ costs paths sums w h count p1 p2 end k₀ v k = (k ≤ 8) × Added w h count p1 p2 costs paths sums v₀ v k
+Inv-loop v₀ costs paths sums w h count p1 p2 end k₀ v k = (k ≤ 8) × Added w h count p1 p2 costs sums v₀ v k
 
 abbrev μ-loop : tie.MeasureT-loop
 μ-loop v₀ costs paths sums w h count p1 p2 end k₀ v k = 8 - k
@@ -36,12 +36,6 @@ is-cleared c =
     let a = s .args in
     let n = a .w * a .h * a .count in
     zeroed (a .sums) (a .sums + n - a .sums) n (now (a .v)) (c .before .before .clear-f32 .last .0) (omega arith) (s .pre .1 .paths-sums .b-in) (c .before .before .clear-f32 .ensures)
-
-room : (c : tie.After-slice-known2 Inv-loop μ-loop) → let a = start c .args in Room (cleared c) (a .w * a .h * a .count) (a .costs) (a .paths) (a .sums)
-room c =
-    let s = start c in
-    let a = s .args in
-    same-room (s .pre .1) (cleared c) (cleared-length (a .w) (a .h) (a .count) (s .pre .1) (is-cleared c))
 
 mul-end : tie.Need-mul-end Inv-loop μ-loop
 mul-end c = let s = c .before in let a = s .args in omega (arith, le-mul-of-pos-right (a .w * a .h) (s .pre .0), s .pre .1 .paths-sums .b-in, s .good)
@@ -71,7 +65,7 @@ loop-holds : tie.Need-loop-holds Inv-loop μ-loop
 loop-holds c =
     let s = start c in
     let a = s .args in
-    (omega arith, added-none (a .w) (a .h) (a .count) (a .p1) (a .p2) (room c) (cleared-sums (a .w) (a .h) (a .count) (s .pre .1) (is-cleared c)))
+    (omega arith, added-none (a .w) (a .h) (a .count) (a .p1) (a .p2) (cleared-sums (a .w) (a .h) (a .count) (s .pre .1) (is-cleared c)))
 
 mul-step : tie.Need-mul-step Inv-loop μ-loop
 mul-step c = search needs
@@ -93,9 +87,13 @@ path-direction-requires c κs =
     let a = s .args in
     let added = at-loop .loop .inv .1 in
     let same : run (a .w * a .h * a .count) (a .costs) (at-loop .loop .v) ≡ run (a .w * a .h * a .count) (a .costs) (now (a .v)) =
-    added-costs (a .w) (a .h) (a .count) (a .p1) (a .p2) (room d) added ∙ cleared-costs (a .w) (a .h) (a .count) (s .pre .1) (is-cleared d) in (
+    added .same-costs ∙ cleared-costs (a .w) (a .h) (a .count) (s .pre .1) (is-cleared d) in (
       same-direction (at-loop .loop .k) (omega (arith, c .before .before .before .before .loop-test .taken)),
-      (s .pre .0, added-room (a .w) (a .h) (a .count) (a .p1) (a .p2) (room d) added, rw same (s .pre .2)),
+      (
+        s .pre .0,
+        same-room (s .pre .1) (at-loop .loop .v) (added .same-length ∙ cleared-length (a .w) (a .h) (a .count) (s .pre .1) (is-cleared d)),
+        rw same (s .pre .2),
+      ),
     )
 
 add-k : tie.Need-add-k Inv-loop μ-loop
@@ -113,9 +111,9 @@ loop-again c =
     let n = a .w * a .h * a .count in
     let less : l .k < 8 = omega (arith, in-loop .loop-test .taken) in (
       omega arith,
-      added-more (a .w) (a .h) (a .count) (a .p1) (a .p2) (room d) (l .inv .1) less (c .before .before .path-direction .last .0)
-          (c .before .before .path-direction .ensures
-          ∙ ap (λ (q : Walk). put (put (l .v) (a .paths) (pathVolume q (run n (a .costs) (l .v)))) (a .sums) (addVec (run n (a .sums) (l .v)) (pathVolume q (run n (a .costs) (l .v))))) (same-walk (l .k) less (a .w) (a .h) (a .count) (a .p1) (a .p2))),
+      added-more (a .w) (a .h) (a .count) (a .p1) (a .p2) (l .inv .1) less (c .before .before .path-direction .last .0)
+          (subst (λ (q : Walk). SumsMade (l .v) (c .before .before .path-direction .last .0) n (a .costs) (a .sums) (addVec (run n (a .sums) (l .v)) (pathVolume q (run n (a .costs) (l .v)))))
+          (same-walk (l .k) less (a .w) (a .h) (a .count) (a .p1) (a .p2)) (c .before .before .path-direction .ensures)),
     )
 
 same-length : tie.Need-same-length Inv-loop μ-loop
@@ -123,7 +121,7 @@ same-length c =
     let d = c .before .before in
     let s = start d in
     let a = s .args in
-    added-length (a .w) (a .h) (a .count) (a .p1) (a .p2) (room d) (c .before .loop .inv .1) ∙ cleared-length (a .w) (a .h) (a .count) (s .pre .1) (is-cleared d)
+    c .before .loop .inv .1 .same-length ∙ cleared-length (a .w) (a .h) (a .count) (s .pre .1) (is-cleared d)
 
 returns : tie.Need-returns Inv-loop μ-loop
 returns c =
@@ -131,7 +129,7 @@ returns c =
     let s = start d in
     let a = s .args in
     let end : c .before .loop .k ≡ 8 = omega arith in
-    let all : Added (a .w) (a .h) (a .count) (a .p1) (a .p2) (a .costs) (a .paths) (a .sums) (cleared d) (c .before .loop .v) 8 = rw end at (c .before .loop .inv .1) in
+    let all : Added (a .w) (a .h) (a .count) (a .p1) (a .p2) (a .costs) (a .sums) (cleared d) (c .before .loop .v) 8 = rw end at (c .before .loop .inv .1) in
     added-done (a .w) (a .h) (a .count) (s .pre .1) (is-cleared d) all
 
 pub aggregate-sgm-spec : {M : Type 1} → statement M
