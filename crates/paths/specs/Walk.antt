@@ -44,18 +44,10 @@ pathFrom k path cost (At q) = stepVec (k .p1) (k .p2) (path q) cost
 abbrev pub cellsOf : ℕ → List Float → ℕ → List Float
 cellsOf count v p = run count (p * count) v
 
--- L at pixel p, where L at the previous pixel stands in the volume l
-abbrev pub pathOver : Walk → List Float → List Float → ℕ → List Float
-pathOver k l c p = pathFrom k (cellsOf (k .count) l) (cellsOf (k .count) c p) (previousOf k p)
-
 -- L at pixel p, over the last n steps of its path
 unfoldable pub pathWithin : Walk → List Float → ℕ → ℕ → List Float
 pathWithin k c zero p = cellsOf (k .count) c p
 pathWithin k c (suc n) p = pathFrom k (pathWithin k c n) (cellsOf (k .count) c p) (previousOf k p)
-
--- the path costs of the pixel before p are known to be in their range
-abbrev pub ReadyAt : Walk → List Float → ℕ → Type 0
-ReadyAt k l p = (q : ℕ) → previousOf k p ≡ At q → All (UpTo 1027) (cellsOf (k .count) l q)
 
 -- the row of slots for row y: two are used by turns, since a step reads its own row or the one visited before
 abbrev pub slotRow : ℕ → ℕ
@@ -129,10 +121,6 @@ directions =
     ∷ (negsuc 0 ∷ pos 1 ∷ [])
     ∷ (negsuc 0 ∷ negsuc 0 ∷ [])
     ∷ []
-
--- the last of them
-abbrev pub lastDirection : List ℤ
-lastDirection = negsuc 0 ∷ negsuc 0 ∷ []
 
 -- the walk along a direction
 abbrev pub walkAlong : ℕ → ℕ → ℕ → Float → Float → List ℤ → Walk
