@@ -18,6 +18,7 @@ use Rattle.choices.specs.declared.block.Shift.{Shift}
 use Rattle.choices.specs.declared.block.Span.{Span}
 use Rattle.choices.specs.declared.subpixel.Search.{Search}
 
+-- it is the other picture's
 abbrev pub isTurned : Seen → Bool
 isTurned Own = false
 isTurned Turned = true

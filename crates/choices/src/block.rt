@@ -5,6 +5,7 @@ use super::subpixel::disparity_at;
 use super::subpixel::has_sides;
 use super::subpixel::refine;
 use lists::clear_f32;
+use lists::fill_first;
 use maps::Cell;
 use options::RawCost;
 ghost use mathlib.Core.Path.{_≡_};
@@ -63,6 +64,7 @@ pub struct Span {
     pub to: usize,
 }
 
+// Whether it is the other picture's.
 fn is_turned(seen: Seen) -> bool
     ensures { λ t. ⌜ t ≡ isTurned seen ⌝ }
 {
@@ -79,16 +81,7 @@ fn pick(test: bool, yes: f32, no: f32) -> f32
     if test { yes } else { no }
 }
 
-// Sets the first n cells.
-fn fill_first(cells: &mut [f32], n: usize, v: f32)
-    requires { ⌜ n ≤ length (now cells) ⌝ }
-    ensures { λ _. ⌜ now (cells .exit) ≡ cleared v n (now (cells .entry)) ⌝ }
-{
-    for i in 0..n {
-        cells[i] = v;
-    }
-}
-
+// The smaller of two.
 fn lesser(a: usize, b: usize) -> usize
     ensures { λ r. ⌜ r ≡ min a b ⌝ }
 {

@@ -14,6 +14,8 @@ ghost use Rattle.costs.specs.Span.{spanOf};
 ghost use Rattle.costs.specs.Volume.{rowCells, planeCells};
 ghost use Rattle.costs.specs.Rooms.{RoomOf, Ready, Lined};
 use crate::raw::pair_cost;
+use lists::fill_first;
+use options::BlockMatchOptions;
 use windows::distance;
 
 // The columns of a row where both windows lie within it, and where the target's begin.
@@ -30,6 +32,7 @@ fn left_of(w: usize, taken: usize) -> usize
     if taken < w { w - taken } else { 0 }
 }
 
+// Those columns, for one shift.
 fn span_of(w: usize, r: usize, shift: i64) -> Span
     requires { ⌜ (w ≤ sideMost) × (r ≤ blockMost / 2) × (natAbs shift ≤ shiftMost) ⌝ }
     ensures { λ s. ⌜ s ≡ spanOf w r shift ⌝ }
@@ -54,9 +57,7 @@ fn span_of(w: usize, r: usize, shift: i64) -> Span
 fn blank_row(row: &mut [f32])
     ensures { λ _. ⌜ now (row .exit) ≡ listOf (length (now (row .entry))) (λ _. inf true) ⌝ }
 {
-    for x in 0..row.len() {
-        row[x] = -1.0 / 0.0;
-    }
+    fill_first(row, row.len(), BlockMatchOptions::BLANK.stored());
 }
 
 // The cells from column x on, whose targets begin in column `other`.

@@ -7,6 +7,7 @@ use native.Mathlib.Numerals.{add-one}
 use native.Mathlib.Omega.{arith}
 use lib.ListN.{length, drop, set, replicate, length-set}
 use lib.Seq.{drop-length}
+use Rattle.lists.specs.Lists.{cleared}
 
 pub record Clearing {A : Type 0} (z : A) (cells₀ cells : List A) (i : ℕ) : Type 0 where
   pub within : i ≤ length cells₀
@@ -29,3 +30,7 @@ module _ {A : Type 0} (z : A) (cells₀ : List A) where
   clearing-done cells i c l =
       let last : i ≡ length cells₀ = omega (arith, c .within) in
       c .is ∙ rw (last, drop-length cells₀, append-nil)
+
+-- as many cells as there are
+pub cleared-all : {A : Type 0} (z : A) (cells : List A) → cleared z (length cells) cells ≡ replicate (length cells) z
+cleared-all z cells = rw (drop-length cells, append-nil)

@@ -3,7 +3,9 @@ ghost use mathlib.Core.Path.{_≡_};
 ghost use mathlib.Core.Bool.{false};
 ghost use lib.IntN.{pos};
 ghost use lib.Ieee.{fin};
+ghost use Prim.Native.Nat.{_≤_};
 ghost use lib.ListN.{length, replicate};
+ghost use Rattle.lists.specs.Lists.{cleared};
 
 // Sets every cell to zero.
 pub fn clear_u64(cells: &mut [u64])
@@ -20,6 +22,16 @@ pub fn clear_f32(cells: &mut [f32])
 {
     for i in 0..cells.len() {
         cells[i] = 0.0;
+    }
+}
+
+// Sets the first n cells.
+pub fn fill_first(cells: &mut [f32], n: usize, v: f32)
+    requires { ⌜ n ≤ length (now cells) ⌝ }
+    ensures { λ _. ⌜ now (cells .exit) ≡ cleared v n (now (cells .entry)) ⌝ }
+{
+    for i in 0..n {
+        cells[i] = v;
     }
 }
 

@@ -14,6 +14,7 @@ use choices::block::Gates;
 use choices::block::Seen;
 use choices::block::select_block;
 use choices::subpixel::Search;
+use lists::fill_first;
 use maps::Cell;
 use options::BlockMatchOptions;
 
@@ -33,9 +34,7 @@ pub fn search_of(opts: BlockMatchOptions) -> Search
 fn blank_map(out: &mut [f32])
     ensures { λ _. ⌜ now (out .exit) ≡ map inBuffer (listOf (length (now (out .entry))) (λ _. Mark)) ⌝ }
 {
-    for p in 0..out.len() {
-        out[p] = Cell::Mark.stored();
-    }
+    fill_first(out, out.len(), Cell::Mark.stored());
 }
 
 // The map of the block choices. A window of one pixel shows one level, so that then there is no raw cost at all.

@@ -1,13 +1,13 @@
--- `choices::block::fill_first` meets its contract. Assumes nothing.
+-- `lists::fill_first` meets its contract. Assumes nothing.
 use denote.Ref.{now}
 use Prim.Native.Nat.{_≤_, _-_}
 use mathlib.Core.Path.{_≡_, ap, _∙_}
 use native.Mathlib.Omega.{arith}
 use borrow.Author.Needs.{needs}
 use Rattle.lists.specs.Lists.{cleared}
 use Rattle.lists.proofs.Clearing.{Clearing, clearing-none, clearing-more}
-use Rattle.choices.proofs.block.fill_first.Statement.{statement}
-use Rattle.choices.proofs.block.fill_first.Tie as tie
+use Rattle.lists.proofs.fill_first.Statement.{statement}
+use Rattle.lists.proofs.fill_first.Tie as tie
 
 abbrev Inv-loop : tie.InvT-loop
 Inv-loop cells₀ n v i₀ cells i = Clearing v cells₀ cells i × (i ≤ n)
