@@ -12,7 +12,8 @@ ghost use mathlib.Core.Path.{_≡_};
 ghost use mathlib.Core.Bool.{true};
 ghost use Prim.Native.Nat.{_+_, _*_, _≤_};
 ghost use lib.ListN.{length};
-ghost use Rattle.heap_text.specs.Text.{Printed, mapText};
+ghost use Rattle.heap_text.specs.Text.{mapText};
+ghost use Rattle.lists.specs.Stores.{Printed};
 ghost use Rattle.maps.specs.Map.{goodSize, valids};
 ghost use Rattle.heap_print.specs.Answer.{wholeRoom, floatRoom, optionsOf, matchedText, answerOf};
 

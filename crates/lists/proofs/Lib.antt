@@ -5,3 +5,4 @@ pub mod Walks
 pub mod Clearing
 pub mod Copying
 pub mod Rows
+pub mod Stores

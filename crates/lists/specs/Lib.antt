@@ -1,4 +1,5 @@
 -- The words that several crates use of lists.
 pub mod Lists
 pub mod Rows
+pub mod Stores
 pub mod Turned

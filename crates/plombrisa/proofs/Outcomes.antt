@@ -8,7 +8,10 @@ use Rattle.maps.specs.declared.Extent.{Extent}
 use Rattle.points.specs.declared.Intrinsics.{Intrinsics}
 use Rattle.points.specs.declared.Point3.{Point3}
 use Rattle.points.specs.declared.PointRecord.{PointRecord}
-use Rattle.plombrisa.specs.Answers.{RangeTold, PointTold, PointsTold}
+use Rattle.sheets.specs.declared.reading.Said.{Said}
+use Rattle.sheets.specs.Steps.{Or}
+use Rattle.sheets.specs.Sheet.{Sheet}
+use Rattle.plombrisa.specs.Answers.{RangeTold, PointTold, PointsTold, WriteTold, SaidTold, ReadTold}
 
 -- THEOREM: of a pixel, a reading between pixels, a number of valid cells and a cover figure: the answer and the lent number
 pub one-number : {A : Type 0} {number : ℕ} {value : A} {n m : ℕ} {v u : A} → (n ≡ number) × (v ≡ value) → (m ≡ number) × (u ≡ value) → (n ≡ m) × (v ≡ u)
@@ -29,3 +32,19 @@ one-point a b = (a .answer ∙ sym (b .answer), a .xs ∙ sym (b .xs), a .ys ∙
 pub one-list : {w h : ℕ} {cells : List Float} {k : Intrinsics} {list : List PointRecord} {count n m : ℕ} {list₁ list₂ : List PointRecord} {count₁ count₂ : ℕ}
     → PointsTold n w h cells k list list₁ count count₁ → PointsTold m w h cells k list list₂ count count₂ → (n ≡ m) × (list₁ ≡ list₂) × (count₁ ≡ count₂)
 one-list x y = (x .answer ∙ sym (y .answer), x .lists ∙ sym (y .lists), x .counts ∙ sym (y .counts))
+
+-- THEOREM: of a sheet that is written
+pub one-sheet : {sheet : Or (List ℕ)} {out : List ℕ} {count n m : ℕ} {out₁ out₂ : List ℕ} {count₁ count₂ : ℕ}
+    → WriteTold n sheet out out₁ count count₁ → WriteTold m sheet out out₂ count count₂ → (n ≡ m) × (out₁ ≡ out₂) × (count₁ ≡ count₂)
+one-sheet x y = (x .answer ∙ sym (y .answer), x .outs ∙ sym (y .outs), x .counts ∙ sym (y .counts))
+
+-- THEOREM: of what a sheet says, and of its cells
+pub one-said : {s : Said} {kind width height n m kind₁ kind₂ width₁ width₂ height₁ height₂ : ℕ}
+    → SaidTold n s kind kind₁ width width₁ height height₁ → SaidTold m s kind kind₂ width width₂ height height₂
+    → (n ≡ m) × (kind₁ ≡ kind₂) × (width₁ ≡ width₂) × (height₁ ≡ height₂)
+one-said x y = (x .answer ∙ sym (y .answer), x .kinds ∙ sym (y .kinds), x .widths ∙ sym (y .widths), x .heights ∙ sym (y .heights))
+
+pub one-read : {sheet : Or Sheet} {out : List Float} {kind width height n m : ℕ} {out₁ out₂ : List Float} {kind₁ kind₂ width₁ width₂ height₁ height₂ : ℕ}
+    → ReadTold n sheet out out₁ kind kind₁ width width₁ height height₁ → ReadTold m sheet out out₂ kind kind₂ width width₂ height height₂
+    → ((n ≡ m) × (kind₁ ≡ kind₂) × (width₁ ≡ width₂) × (height₁ ≡ height₂)) × (out₁ ≡ out₂)
+one-read x y = (one-said (x .told) (y .told), x .outs ∙ sym (y .outs))

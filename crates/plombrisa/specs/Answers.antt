@@ -20,6 +20,14 @@ use Rattle.points.specs.declared.Filled.the-variants as filled
 use Rattle.points.specs.declared.Intrinsics.{Intrinsics}
 use Rattle.points.specs.declared.PointRecord.{PointRecord}
 use Rattle.points.specs.Records.{answerOf, listAfter}
+use Rattle.sheets.specs.declared.writing.Written.{Written}
+use Rattle.sheets.specs.declared.writing.Written.the-variants as written
+use Rattle.sheets.specs.declared.reading.Said.{Said}
+use Rattle.sheets.specs.declared.reading.Said.the-variants as said
+use Rattle.sheets.specs.Steps.{Or}
+use Rattle.sheets.specs.Code.{kindNumber}
+use Rattle.sheets.specs.Sheet.{Sheet}
+use Rattle.sheets.specs.Outcome.{roomFor, byteCount, outAfter, cellsFor, sizeSaid, cellsAfter}
 
 -- of a pixel: the level
 abbrev pub levelRefusal : Level → ℕ
@@ -111,3 +119,44 @@ pub record PointsTold (n w h : ℕ) (cells : List Float) (k : Intrinsics) (list 
   pub answer : n ≡ filledRefusal (answerOf w h cells k (length list))
   pub lists : list′ ≡ listAfter w h cells k list
   pub counts : count′ ≡ filledAfter (answerOf w h cells k (length list)) count
+
+-- of a sheet that is written: the byte count
+abbrev pub writtenRefusal : Written → ℕ
+writtenRefusal (written.Bytes v) = 0
+writtenRefusal (written.Refused n) = n
+
+abbrev pub writtenAfter : Written → ℕ → ℕ
+writtenAfter (written.Bytes v) was = v
+writtenAfter (written.Refused n) was = was
+
+pub record WriteTold (n : ℕ) (sheet : Or (List ℕ)) (out out′ : List ℕ) (count count′ : ℕ) : Type 0 where
+  pub answer : n ≡ writtenRefusal (byteCount (roomFor (length out) sheet))
+  pub outs : out′ ≡ outAfter (roomFor (length out) sheet) out
+  pub counts : count′ ≡ writtenAfter (byteCount (roomFor (length out) sheet)) count
+
+-- of a sheet that is read: its kind's number, width and height
+abbrev pub saidRefusal : Said → ℕ
+saidRefusal (said.Map k w h) = 0
+saidRefusal (said.Refused n) = n
+
+abbrev pub kindAfter : Said → ℕ → ℕ
+kindAfter (said.Map k w h) was = kindNumber k
+kindAfter (said.Refused n) was = was
+
+abbrev pub widthAfter : Said → ℕ → ℕ
+widthAfter (said.Map k w h) was = w
+widthAfter (said.Refused n) was = was
+
+abbrev pub heightAfter : Said → ℕ → ℕ
+heightAfter (said.Map k w h) was = h
+heightAfter (said.Refused n) was = was
+
+pub record SaidTold (n : ℕ) (s : Said) (kind kind′ width width′ height height′ : ℕ) : Type 0 where
+  pub answer : n ≡ saidRefusal s
+  pub kinds : kind′ ≡ kindAfter s kind
+  pub widths : width′ ≡ widthAfter s width
+  pub heights : height′ ≡ heightAfter s height
+
+pub record ReadTold (n : ℕ) (sheet : Or Sheet) (out out′ : List Float) (kind kind′ width width′ height height′ : ℕ) : Type 0 where
+  pub told : SaidTold n (sizeSaid (cellsFor (length out) sheet)) kind kind′ width width′ height height′
+  pub outs : out′ ≡ cellsAfter (cellsFor (length out) sheet) out

@@ -3,6 +3,7 @@
 pub mod map;
 pub mod picture;
 pub mod point;
+pub mod sheet;
 
 ghost use mathlib.Core.Path.{_≡_};
 ghost use lib.ListN.{length};

@@ -31,6 +31,10 @@ use Rattle.costs.specs.Outcome.{rawCall, RawDone}
 use Rattle.costs.proofs.Outcomes as costs
 use Rattle.matching.specs.Outcome.{matchCall, MatchDone}
 use Rattle.matching.proofs.Outcomes as matching
+use Rattle.sheets.specs.declared.writing.Written.{Written}
+use Rattle.sheets.specs.declared.reading.Said.{Said}
+use Rattle.sheets.specs.Sheet.{sheetOf, readSheet}
+use Rattle.sheets.specs.Outcome.{byteCount, sizeSaid, WriteDone, ReadDone}
 
 -- two answers that are both what a definition says
 both : {A : Type 0} {d r r′ : A} → r ≡ d → r′ ≡ d → r ≡ r′
@@ -110,3 +114,19 @@ pub points : (w h : ℕ) (cells : List Float) (k : Intrinsics) (list : List Poin
     → (r′ ≡ answerOf w h cells k (length list)) × (list₂ ≡ listAfter w h cells k list)
     → (r ≡ r′) × (list₁ ≡ list₂)
 points w h cells k list r r′ list₁ list₂ e e′ = (both (e .0) (e′ .0), both (e .1) (e′ .1))
+
+-- a map's sheet: how long it is, and written, with the output afterwards
+pub sheet-length : (kind w h : ℕ) (cells : List Float) (r r′ : Written) → r ≡ byteCount (sheetOf kind w h cells) → r′ ≡ byteCount (sheetOf kind w h cells) → r ≡ r′
+sheet-length kind w h cells r r′ = both
+
+pub write-sheet : (kind w h : ℕ) (cells : List Float) (out : List ℕ) (r r′ : Written) (out₁ out₂ : List ℕ)
+    → WriteDone r (sheetOf kind w h cells) out out₁ → WriteDone r′ (sheetOf kind w h cells) out out₂ → (r ≡ r′) × (out₁ ≡ out₂)
+write-sheet kind w h cells out r r′ out₁ out₂ e e′ = (both (e .answers) (e′ .answers), both (e .outs) (e′ .outs))
+
+-- what a sheet is, and read, with the output afterwards
+pub sheet-size : (s : List ℕ) (r r′ : Said) → r ≡ sizeSaid (readSheet s) → r′ ≡ sizeSaid (readSheet s) → r ≡ r′
+sheet-size s r r′ = both
+
+pub read-sheet : (s : List ℕ) (out : List Float) (r r′ : Said) (out₁ out₂ : List Float)
+    → ReadDone r (readSheet s) out out₁ → ReadDone r′ (readSheet s) out out₂ → (r ≡ r′) × (out₁ ≡ out₂)
+read-sheet s out r r′ out₁ out₂ e e′ = (both (e .answers) (e′ .answers), both (e .outs) (e′ .outs))

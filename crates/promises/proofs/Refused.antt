@@ -7,7 +7,7 @@ use mathlib.Core.List.{List, [], _∷_, map}
 use native.Mathlib.Nat.{lt-trans}
 use native.Mathlib.Omega.{arith}
 use lib.Dec.{lit<}
-use lib.Ieee.{mul, div, sum, add, sub, neg, ofInt, round, size, climb, span, units, odd, lt, le, eq, isNan, ofBits, ofFields, toUnsigned}
+use lib.Ieee.{mul, div, sum, add, sub, neg, ofInt, round, size, climb, span, units, odd, lt, le, eq, isNan, ofBits, ofFields, toUnsigned, whole, toSigned}
 use Rattle.refusals.specs.declared.Call.{Call}
 use Rattle.refusals.specs.Refusals.{Row, firstOf, pictureRows, searchRows, penaltyRows, lentRows, table, refusal}
 use Rattle.pictures.specs.Picture.{shapeOf, levelIn, pixelOf}
@@ -15,6 +15,9 @@ use Rattle.pictures.specs.Bilinear.{clamped, placeOf, blended, valueAt, valueIn
 use Rattle.maps.specs.Map.{goodSize, inside, gotAt, validAt, validCount, validRange, coverOf}
 use Rattle.points.specs.Point.{isPositive, goodCamera, goodBaseline}
 use Rattle.points.specs.Records.{pointsIn, answerOf}
+use Rattle.sheets.specs.Number.{groups, numberBytes, takeGroups, takeNumber}
+use Rattle.sheets.specs.Code.{kindOf, codeOf, cellOf}
+use Rattle.sheets.specs.Sheet.{headBytes, cellsBytes, kindSheet, sheetOf, takeVersion, takeSide, takeHead, takeCell, takeCells, readSheet}
 use Rattle.promises.specs.Answered.{Applies, Increasing, FirstIs, NoneApplies}
 use Rattle.promises.specs.Witnesses.{Reached}
 
@@ -124,7 +127,7 @@ module _ (q : Call) where
 
 -- THEOREM: every number is answered for some call
 pub reached : Reached
-unfolding refusal table firstOf pictureRows searchRows penaltyRows lentRows pixelOf shapeOf levelIn sampleOf valueIn valueAt placeOf clamped blended gotAt validAt validCount validRange coverOf goodSize inside answerOf goodCamera goodBaseline pointsIn isPositive mul div sum add sub neg ofInt round size climb span units odd lt le eq isNan ofBits ofFields toUnsigned
+unfolding refusal table firstOf pictureRows searchRows penaltyRows lentRows pixelOf shapeOf levelIn sampleOf valueIn valueAt placeOf clamped blended gotAt validAt validCount validRange coverOf goodSize inside answerOf goodCamera goodBaseline pointsIn isPositive mul div sum add sub neg ofInt round size climb span units odd lt le eq isNan ofBits ofFields toUnsigned sheetOf kindSheet headBytes cellsBytes numberBytes groups kindOf codeOf cellOf whole toSigned readSheet takeHead takeVersion takeSide takeCells takeCell takeNumber takeGroups
 reached = record {
   matches = refl;
   pixel-1 = refl;
@@ -146,4 +149,20 @@ reached = record {
   points-22 = refl;
   points-23 = refl;
   points-24 = refl;
+  write-23 = refl;
+  write-35 = refl;
+  write-31 = refl;
+  write-32 = refl;
+  write-33 = refl;
+  write-is = refl;
+  read-34 = refl;
+  read-34-long = refl;
+  read-34-over = refl;
+  read-35 = refl;
+  read-35-kind = refl;
+  read-36 = refl;
+  read-37 = refl;
+  read-38 = refl;
+  read-11 = refl;
+  read-is = refl;
 }

@@ -4,7 +4,7 @@ use mathlib.Core.Path.{_≡_}
 use mathlib.Core.Bool.{Bool, true, false}
 use mathlib.Core.List.{List, [], _∷_, map}
 use lib.IntN.{ℤ, pos, negsuc}
-use lib.Ieee.{Float, nan, fin}
+use lib.Ieee.{Float, nan, inf, fin}
 use Rattle.refusals.specs.declared.Call.{Call}
 use Rattle.refusals.specs.declared.Output.the-variants.{Map}
 use Rattle.refusals.specs.Refusals.{refusal}
@@ -20,6 +20,10 @@ use Rattle.maps.specs.Map.{gotAt, validAt, validCount, validRange, coverOf}
 use Rattle.points.specs.declared.Intrinsics.{Intrinsics}
 use Rattle.points.specs.declared.Filled.the-variants.{Refused}
 use Rattle.points.specs.Records.{answerOf}
+use Rattle.sheets.specs.declared.code.Kind.the-variants.{Whole}
+use Rattle.sheets.specs.Steps.{is, refused}
+use Rattle.sheets.specs.Sheet.{sheetOf, readSheet}
+use Rattle.sheets.specs.Outcome.{roomFor, cellsFor}
 
 -- a match of a left picture w wide and 3 high with so many bytes and a right one likewise, the first disparity, count, block side and
 -- mode, a penalty, and the lengths of the output and of the whole-number room; penalty p2 is 1, and the float room has 105 cells
@@ -68,6 +72,10 @@ calls =
 abbrev cameraOf : Float → Float → Intrinsics
 cameraOf fx baseline = record { fx = fx; fy = one; cx = fin false 0 (pos 0); cy = fin false 0 (pos 0); baseline = baseline }
 
+-- the sheet of one cell, 1, in kind 0
+abbrev oneSheet : List ℕ
+oneSheet = 1 ∷ 0 ∷ 1 ∷ 1 ∷ 3 ∷ []
+
 -- EVERY NUMBER is answered for some call
 pub record Reached : Type 0 where
   -- a match: 0 to 12
@@ -94,3 +102,22 @@ pub record Reached : Type 0 where
   pub points-22 : answerOf 1 1 (one ∷ []) (cameraOf one (fin false 0 (pos 0))) 1 ≡ Refused 22
   pub points-23 : answerOf 1 1 (one ∷ one ∷ []) (cameraOf one one) 1 ≡ Refused 23
   pub points-24 : answerOf 1 1 (one ∷ []) (cameraOf one one) 0 ≡ Refused 24
+  -- the sheet of one cell, 1: a cell too many, a kind 2, a cell that is infinite, minus zero in kind 0, and an output of 4 bytes
+  pub write-23 : sheetOf 0 1 1 (one ∷ one ∷ []) ≡ refused 23
+  pub write-35 : sheetOf 2 1 1 (one ∷ []) ≡ refused 35
+  pub write-31 : sheetOf 1 1 1 (inf true ∷ []) ≡ refused 31
+  pub write-32 : sheetOf 0 1 1 (fin true 0 (pos 0) ∷ []) ≡ refused 32
+  pub write-33 : roomFor 4 (sheetOf 0 1 1 (one ∷ [])) ≡ refused 33
+  pub write-is : roomFor 5 (sheetOf 0 1 1 (one ∷ [])) ≡ is oneSheet
+  -- bytes that say nothing: a number that is cut, one not shortest, one of six groups, a version 2, a kind 2, a width 0, a cell's number
+  -- one too large, and a byte left over; and an output of two cells
+  pub read-34 : readSheet (0x81 ∷ []) ≡ refused 34
+  pub read-34-long : readSheet (0x81 ∷ 0x00 ∷ []) ≡ refused 34
+  pub read-34-over : readSheet (0x81 ∷ 0x80 ∷ 0x80 ∷ 0x80 ∷ 0x80 ∷ 0x01 ∷ []) ≡ refused 34
+  pub read-35 : readSheet (2 ∷ []) ≡ refused 35
+  pub read-35-kind : readSheet (1 ∷ 2 ∷ []) ≡ refused 35
+  pub read-36 : readSheet (1 ∷ 0 ∷ 0 ∷ []) ≡ refused 36
+  pub read-37 : readSheet (1 ∷ 0 ∷ 1 ∷ 1 ∷ 0x82 ∷ 0x80 ∷ 0x01 ∷ []) ≡ refused 37
+  pub read-38 : readSheet (1 ∷ 0 ∷ 1 ∷ 1 ∷ 3 ∷ 0 ∷ []) ≡ refused 38
+  pub read-11 : cellsFor 2 (readSheet oneSheet) ≡ refused 11
+  pub read-is : cellsFor 1 (readSheet oneSheet) ≡ is (record { kind = Whole; width = 1; height = 1; cells = one ∷ [] })

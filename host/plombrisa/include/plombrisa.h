@@ -57,4 +57,20 @@ uint32_t plombrisa_points(
     double fx, double fy, double cx, double cy, double baseline,
     plombrisa_point_record *list, size_t list_len, uint64_t *count);
 
+/* A sheet, a map stored as bytes: kind 0 holds whole disparities from -8192 to 8192, kind 1 any finite f32, and a NaN is stored
+ * as the mark. The first answers how many bytes the sheet takes; the second writes them, with their number in count, and leaves
+ * those beyond as they were. */
+uint32_t plombrisa_sheet_length(
+    const float *cells, size_t cells_len, size_t width, size_t height, uint64_t kind, uint64_t *count);
+uint32_t plombrisa_write_sheet(
+    const float *cells, size_t cells_len, size_t width, size_t height, uint64_t kind,
+    uint8_t *out, size_t out_len, uint64_t *count);
+
+/* The kind and the size of a sheet, and with the second its map too, a NaN for each mark, into w*h cells. Both judge every byte;
+ * only the length of out is left to the second. */
+uint32_t plombrisa_sheet_size(
+    const uint8_t *sheet, size_t sheet_len, uint64_t *kind, uint64_t *width, uint64_t *height);
+uint32_t plombrisa_read_sheet(
+    const uint8_t *sheet, size_t sheet_len, float *out, size_t out_len, uint64_t *kind, uint64_t *width, uint64_t *height);
+
 #endif

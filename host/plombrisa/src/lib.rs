@@ -1,13 +1,15 @@
 //! Plombrisa from Rust: safe functions over the exports of the proved library. Names and order of the exports are fixed in
-//! crates/plombrisa/src; nothing checks these declarations against them but the differential runs.
+//! crates/plombrisa/src; nothing checks these declarations against them but the differential runs and the sheets' run.
 
 mod maps;
 mod pictures;
 mod points;
+mod sheets;
 
 pub use maps::{Map, cover, cover_in, valid_count, valid_count_in, valid_range, valid_range_in};
 pub use pictures::{bilinear, bilinear_in, pixel, pixel_in};
 pub use points::{Intrinsics, PointRecord, points, points_in, rectified_point, rectified_point_in};
+pub use sheets::{Kind, Sheet, read_sheet, read_sheet_in, sheet_length_in, sheet_size_in, write_sheet, write_sheet_in};
 
 mod raw {
     use crate::PointRecord;
@@ -61,6 +63,24 @@ mod raw {
             fx: f64, fy: f64, cx: f64, cy: f64, baseline: f64,
             list: *mut PointRecord, list_len: usize, count: *mut u64,
         ) -> u32;
+
+        pub fn plombrisa_sheet_length(
+            cells: *const f32, cells_len: usize, width: usize, height: usize, kind: u64, count: *mut u64,
+        ) -> u32;
+
+        pub fn plombrisa_write_sheet(
+            cells: *const f32, cells_len: usize, width: usize, height: usize, kind: u64,
+            out: *mut u8, out_len: usize, count: *mut u64,
+        ) -> u32;
+
+        pub fn plombrisa_sheet_size(
+            sheet: *const u8, sheet_len: usize, kind: *mut u64, width: *mut u64, height: *mut u64,
+        ) -> u32;
+
+        pub fn plombrisa_read_sheet(
+            sheet: *const u8, sheet_len: usize, out: *mut f32, out_len: usize,
+            kind: *mut u64, width: *mut u64, height: *mut u64,
+        ) -> u32;
     }
 }
 
@@ -106,7 +126,7 @@ impl Default for Options {
     }
 }
 
-/// Why a call was refused: the rows of the table of document 01, each with its number.
+/// Why a call was refused: the rows of the table of document 01, and from 31 those that sheets added, each with its number.
 #[derive(Debug, Clone, Copy, PartialEq, Eq)]
 #[repr(u32)]
 pub enum Refusal {
@@ -128,6 +148,14 @@ pub enum Refusal {
     ListTooShort = 24,
     CoordinateNan = 25,
     PixelOutside = 26,
+    CellInfinite = 31,
+    CellNotWhole = 32,
+    OutputTooShort = 33,
+    NumberUnfit = 34,
+    VersionOrKindUnknown = 35,
+    SheetSize = 36,
+    CellNumber = 37,
+    BytesLeftOver = 38,
 }
 
 impl Refusal {
@@ -142,6 +170,7 @@ impl Refusal {
             SizeOutOfRange, ByteCount, SizesDiffer, BlockEven, BlockTooLarge, CountNotPositive, CountTooLarge,
             PictureSmallerThanBlock, FirstOutOfRange, PenaltyOutOfRange, OutputLength, RoomTooShort,
             CameraOutOfRange, BaselineOutOfRange, MapSize, ListTooShort, CoordinateNan, PixelOutside,
+            CellInfinite, CellNotWhole, OutputTooShort, NumberUnfit, VersionOrKindUnknown, SheetSize, CellNumber, BytesLeftOver,
         ];
         all.into_iter().find(|refusal| refusal.number() == number)
     }

@@ -1,5 +1,6 @@
 /* Calls each export as the header declares it, and exits with the number of the first that answers otherwise than it should. */
 #include <math.h>
+#include <string.h>
 #include "plombrisa.h"
 
 int main(void) {
@@ -33,5 +34,24 @@ int main(void) {
     uint64_t room[5 * 3 * 3];
     if (plombrisa_raw_volume(picture, 4, 2, 2, picture, 4, 2, 2, 0, 1, 1, true, volume, 4, room, 45) != 0) return 13;
     if (volume[0] != -INFINITY || room[0] != 0 || room[44] != 0) return 14;
+
+    /* 4 by 1, so that kind, width and height are three numbers and cannot stand for each other */
+    const float row[4] = {NAN, 4, -1, 0};
+    const uint8_t stored[8] = {1, 0, 4, 1, 0, 9, 2, 1};
+    uint8_t sheet[9] = {0, 0, 0, 0, 0, 0, 0, 0, 77};
+    if (plombrisa_sheet_length(row, 4, 4, 1, 0, &number) != 0 || number != 8) return 15;
+    number = 7;
+    if (plombrisa_write_sheet(row, 4, 4, 1, 0, sheet, 7, &number) != 33 || number != 7 || sheet[0] != 0) return 16;
+    if (plombrisa_write_sheet(row, 4, 4, 1, 0, sheet, 9, &number) != 0 || number != 8) return 17;
+    if (memcmp(sheet, stored, 8) != 0 || sheet[8] != 77) return 18;
+
+    uint64_t kind = 7, width = 7, height = 7;
+    if (plombrisa_sheet_size(sheet, 9, &kind, &width, &height) != 38 || kind != 7 || width != 7 || height != 7) return 19;
+    if (plombrisa_sheet_size(sheet, 8, &kind, &width, &height) != 0 || kind != 0 || width != 4 || height != 1) return 20;
+    float back[4] = {7, 7, 7, 7};
+    kind = width = height = 7;
+    if (plombrisa_read_sheet(sheet, 8, back, 3, &kind, &width, &height) != 11 || kind != 7 || back[0] != 7) return 21;
+    if (plombrisa_read_sheet(sheet, 8, back, 4, &kind, &width, &height) != 0 || kind != 0 || width != 4 || height != 1) return 22;
+    if (!isnan(back[0]) || back[1] != 4 || back[2] != -1 || back[3] != 0) return 23;
     return 0;
 }

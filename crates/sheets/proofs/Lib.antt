@@ -1,0 +1,8 @@
+-- The laws of the sheet.
+pub mod Stepwise
+pub mod Numbers
+pub mod Codes
+pub mod Writings
+pub mod Readings
+pub mod RoundTrip
+pub mod Examples

@@ -1,0 +1,26 @@
+-- What a run of steps that was not refused says of each step. Assumes nothing.
+use Prim.Native.Nat.{ℕ}
+use mathlib.Core.Path.{_≡_, refl, sym}
+use mathlib.Core.Bool.{Bool, true, false}
+use native.Mathlib.Omega.{arith}
+use Rattle.sheets.specs.Steps.{Or, is, refused, andThen, given}
+
+-- a result is no refusal
+pub not-refused : {A B : Type 0} {a : A} {n : ℕ} → is a ≡ refused n → B
+not-refused e = let z : _≡_ {A = ℕ} 0 1 = cc in absurd (omega arith)
+
+pub same-result : {A : Type 0} {a b : A} → is a ≡ is b → a ≡ b
+same-result e = cc
+
+pub same-refusal : {A : Type 0} {m n : ℕ} → _≡_ {A = Or A} (refused m) (refused n) → m ≡ n
+same-refusal e = cc
+
+-- both steps had a result
+pub then-is : {A B : Type 0} (o : Or A) (next : A → Or B) (b : B) → andThen o next ≡ is b → (a : A) × (o ≡ is a) × (next a ≡ is b)
+then-is (is a) next b e = (a, refl, e)
+then-is (refused n) next b e = not-refused (sym e)
+
+-- the test held
+pub given-is : {A : Type 0} (test : Bool) (n : ℕ) (a b : A) → given test n a ≡ is b → (test ≡ true) × (a ≡ b)
+given-is true n a b e = (refl, same-result e)
+given-is false n a b e = not-refused (sym e)

@@ -1,0 +1,17 @@
+-- Steps one after another, each of which has a result or is refused. Definitions only.
+use Prim.Native.Nat.{ℕ}
+use mathlib.Core.Bool.{Bool, cond}
+
+-- a result, or the number of the refusal
+pub data Or (A : Type 0) : Type 0 where
+  is : A → Or A
+  refused : ℕ → Or A
+
+-- a step, and then another from its result; the first refusal stays
+abbrev pub andThen : {A B : Type 0} → Or A → (A → Or B) → Or B
+andThen (is a) next = next a
+andThen (refused n) next = refused n
+
+-- a result where the test holds, else the refusal n
+abbrev pub given : {A : Type 0} → Bool → ℕ → A → Or A
+given test n a = cond test (is a) (refused n)

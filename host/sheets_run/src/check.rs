@@ -1,0 +1,148 @@
+//! One input on both sides: the library's answer and every lent cell, held to `format`.
+use crate::format::{self, Head};
+use crate::maps::Writing;
+use crate::room::Room;
+use crate::sheets::Reading;
+use plombrisa::{
+    Kind, Map, Refusal, read_sheet, read_sheet_in, sheet_length_in, sheet_size_in, write_sheet, write_sheet_in,
+};
+use std::fmt::Debug;
+
+/// What a lent number holds before a call: no count, no kind and no side.
+const WAS: [u64; 3] = [0xA5A5_0000_1111_2222, 0xA5A5_0000_3333_4444, 0xA5A5_0000_5555_6666];
+
+/// What both sides need to answer, kept from input to input.
+pub struct Both {
+    cells: Vec<f32>,
+    sheet: Vec<u8>,
+    cells_room: Room<f32>,
+    bytes_room: Room<u8>,
+}
+
+fn number_of<T>(answer: &Result<T, Refusal>) -> u32 {
+    answer.as_ref().map_or_else(|refusal| refusal.number(), |_| 0)
+}
+
+fn equal<T: PartialEq + Debug>(what: &str, is: T, should: T) -> Result<(), String> {
+    if is == should { Ok(()) } else { Err(format!("{what}: {is:?}, not {should:?}")) }
+}
+
+fn same_bytes(what: &str, is: &[u8], should: &[u8]) -> Result<(), String> {
+    equal(what, is.len(), should.len())?;
+    match (0..is.len()).find(|&i| is[i] != should[i]) {
+        Some(i) => Err(format!("{what}: byte {i} is {:02X}, not {:02X}", is[i], should[i])),
+        None => Ok(()),
+    }
+}
+
+/// The bits of the library's mark.
+const MARK: u32 = 0x7FC0_0000;
+
+/// The cells that the library read, bit for bit; where a NaN should be, whatever its bits, the mark is.
+fn same_cells(what: &str, is: &[f32], should: &[f32]) -> Result<(), String> {
+    equal(what, is.len(), should.len())?;
+    let same = |a: f32, b: f32| a.to_bits() == if b.is_nan() { MARK } else { b.to_bits() };
+    match (0..is.len()).find(|&i| !same(is[i], should[i])) {
+        Some(i) => Err(format!("{what}: cell {i} is {:08X}, not {:08X}", is[i].to_bits(), should[i].to_bits())),
+        None => Ok(()),
+    }
+}
+
+/// The numbers that a reading lends: the head's where it was accepted, else as they were.
+fn head_after(what: &str, is: [u64; 3], should: Result<Head, u32>) -> Result<(), String> {
+    equal(what, is, should.map_or(WAS, |head| [head.kind, head.width as u64, head.height as u64]))
+}
+
+impl Both {
+    pub fn new() -> Self {
+        Self { cells: Vec::new(), sheet: Vec::new(), cells_room: Room::new(), bytes_room: Room::new() }
+    }
+
+    /// Bytes to be read; and what was read is written as the same bytes. The answer's number.
+    pub fn check_reading(&mut self, input: &Reading) -> Result<u32, String> {
+        let bytes = input.lent();
+        let found = format::read(bytes, &mut self.cells);
+        let [mut kind, mut width, mut height] = WAS;
+        let answer = sheet_size_in(bytes, &mut kind, &mut width, &mut height);
+        equal("size's answer", number_of(&answer), found.err().unwrap_or(0))?;
+        head_after("size's numbers", [kind, width, height], found)?;
+
+        let should = match found {
+            Ok(head) if head.area() != input.out_len => Err(11),
+            other => other,
+        };
+        [kind, width, height] = WAS;
+        let out = self.cells_room.lend(input.out_len);
+        let answer = read_sheet_in(bytes, out, &mut kind, &mut width, &mut height);
+        equal("reading's answer", number_of(&answer), should.err().unwrap_or(0))?;
+        head_after("reading's numbers", [kind, width, height], should)?;
+        match should {
+            Err(_) => self.cells_room.unchanged_but(0)?,
+            Ok(head) => {
+                same_cells("cells read", self.cells_room.lent(), &self.cells)?;
+                self.cells_room.unchanged_but(head.area())?;
+                let map = Map { cells: self.cells_room.lent(), width: head.width, height: head.height };
+                let mut count = WAS[0];
+                let answer = write_sheet_in(map, head.kind, self.bytes_room.lend(bytes.len()), &mut count);
+                equal("answer of writing what was read", number_of(&answer), 0)?;
+                equal("bytes of what was read", count, bytes.len() as u64)?;
+                same_bytes("what was read, written", self.bytes_room.lent(), bytes)?;
+                self.bytes_room.unchanged_but(bytes.len())?;
+            }
+        }
+
+        let sheet = read_sheet(bytes);
+        equal("answer of the reading that lends its own", number_of(&sheet), found.err().unwrap_or(0))?;
+        if let (Ok(sheet), Ok(head)) = (sheet, found) {
+            let its = Head { kind: sheet.kind.number(), width: sheet.width, height: sheet.height };
+            equal("head of the reading that lends its own", its, head)?;
+            same_cells("cells of the reading that lends its own", &sheet.cells, &self.cells)?;
+        }
+        Ok(should.err().unwrap_or(0))
+    }
+
+    /// A map to be written; and what was written reads back. The answer's number.
+    pub fn check_writing(&mut self, input: &Writing) -> Result<u32, String> {
+        let map = Map { cells: input.lent(), width: input.width, height: input.height };
+        let made = format::write(map.cells, map.width, map.height, input.kind, &mut self.sheet);
+        // a map that has no sheet is lent as much as any of its length could take
+        let length = if made.is_ok() { self.sheet.len() } else { 20 + 5 * map.cells.len() };
+        let counted = made.map_or(WAS[0], |()| length as u64);
+        let mut count = WAS[0];
+        let answer = sheet_length_in(map, input.kind, &mut count);
+        equal("length's answer", number_of(&answer), made.err().unwrap_or(0))?;
+        equal("length", count, counted)?;
+
+        let out_len = input.output.length(length);
+        let should = if made.is_ok() && out_len < length { Err(33) } else { made };
+        count = WAS[0];
+        let answer = write_sheet_in(map, input.kind, self.bytes_room.lend(out_len), &mut count);
+        equal("writing's answer", number_of(&answer), should.err().unwrap_or(0))?;
+        if should.is_err() {
+            equal("count of a refused writing", count, WAS[0])?;
+            self.bytes_room.unchanged_but(0)?;
+        } else {
+            equal("count", count, counted)?;
+            let written = &self.bytes_room.lent()[..length];
+            same_bytes("bytes written", written, &self.sheet)?;
+            self.bytes_room.unchanged_but(length)?;
+            let [mut kind, mut width, mut height] = WAS;
+            let out = self.cells_room.lend(map.cells.len());
+            let answer = read_sheet_in(written, out, &mut kind, &mut width, &mut height);
+            equal("answer of reading what was written", number_of(&answer), 0)?;
+            let head = Head { kind: input.kind, width: map.width, height: map.height };
+            head_after("numbers of what was written", [kind, width, height], Ok(head))?;
+            same_cells("what was written, read", self.cells_room.lent(), map.cells)?;
+            self.cells_room.unchanged_but(map.cells.len())?;
+        }
+
+        if let Some(kind) = Kind::of_number(input.kind) {
+            let sheet = write_sheet(map, kind);
+            equal("answer of the writing that lends its own", number_of(&sheet), made.err().unwrap_or(0))?;
+            if let Ok(sheet) = sheet {
+                same_bytes("bytes of the writing that lends its own", &sheet, &self.sheet)?;
+            }
+        }
+        Ok(should.err().unwrap_or(0))
+    }
+}
