@@ -30,7 +30,7 @@ folded (negsuc n) = 2 * n + 1
 abbrev pub unfolded : ℕ → ℤ
 unfolded m = cond (eqb (m % 2) 0) (pos (m / 2)) (negsuc (m / 2))
 
--- a finite cell is in kind 0 a whole number in the version's range, and not minus zero (`whole`)
+-- a finite cell that kind 0 holds: no fraction and not minus zero (`whole` says both), and in the version's range
 abbrev pub isWhole : Float → Bool
 isWhole x = whole binary32 x && isWholeCell (toSigned 31 x)
 

@@ -1,4 +1,4 @@
--- The sheet of a map, as bytes, and what bytes say. In this order: the version's limits, a number, a cell's number, the whole sheet, what the calls answer.
+-- The sheet of a map, as bytes, and what bytes say, in the order in which they are to be read.
 pub mod Limits
 pub mod Steps
 pub mod Number

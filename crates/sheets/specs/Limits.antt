@@ -8,16 +8,18 @@ use lib.IntN.{ℤ, natAbs}
 abbrev pub version : ℕ
 version = 1
 
--- a width or a height: from 1 to 2,048
+-- the largest width and height
 abbrev pub sheetSideMost : ℕ
 sheetSideMost = 2048
 
+-- a width or a height: from 1 to that
 abbrev pub isSheetSide : ℕ → Bool
 isSheetSide n = leb 1 n && leb n sheetSideMost
 
--- a whole disparity of kind 0: from -8,192 to 8,192
+-- the largest whole disparity of kind 0
 abbrev pub wholeMost : ℕ
 wholeMost = 8192
 
+-- a whole disparity of kind 0: from that below zero to that above
 abbrev pub isWholeCell : ℤ → Bool
 isWholeCell z = leb (natAbs z) wholeMost

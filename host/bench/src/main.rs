@@ -2,13 +2,15 @@
 //!
 //! `bench [REPEATS]` prints a table: seconds (the best of the repeats), their ratio, and the most memory that each held at once.
 //! `bench parts [REPEATS]` prints what the parts of one map of 640x480x64 take.
+//! `bench sheets [REPEATS]` prints what a sheet of the block map of 640x480x64 takes, in either kind.
 //! `bench once library|rust|nothing block|semi-global` makes one map of 640x480x64, or only what both are made from, and prints
 //! nothing, so that a counter of instructions has one thing to count.
 mod memory;
+mod sheets;
 
 use memory::peak_of;
 use oracle::dense;
-use plombrisa::{Options, Picture, float_cells, match_block_in, raw_volume_in, whole_cells};
+use plombrisa::{Map, Options, Picture, float_cells, match_block, match_block_in, raw_volume_in, whole_cells};
 use std::hint::black_box;
 use std::time::Instant;
 
@@ -133,6 +135,15 @@ fn parts(repeats: usize) {
     }
 }
 
+/// The sheets of a block map of 640x480x64.
+fn sheets_of_a_map(repeats: usize) {
+    let (w, h) = (640, 480);
+    let pair = pair(w, h);
+    let picture = |bytes| Picture { bytes, width: w, height: h };
+    let cells = match_block(picture(&pair.left), picture(&pair.right), &Options::default()).expect("accepted");
+    sheets::table(Map { cells: &cells, width: w, height: h }, repeats);
+}
+
 /// One map of 640x480x64 by one of the two, or by neither.
 fn once(who: &str, mode: &str) {
     let (w, h, count) = (640, 480, 64);
@@ -159,8 +170,15 @@ fn main() {
         assert!(first == "once", "bench once library|rust|nothing block|semi-global");
         return once(who, mode);
     }
-    if words.first().is_some_and(|word| word == "parts") {
-        return parts(words.get(1).map_or(3, |n| n.parse().expect("REPEATS is a whole number")));
+    let repeats_after = |word: &str| {
+        let asked = words.first().is_some_and(|first| first == word);
+        asked.then(|| words.get(1).map_or(3, |n| n.parse().expect("REPEATS is a whole number")))
+    };
+    if let Some(repeats) = repeats_after("parts") {
+        return parts(repeats);
+    }
+    if let Some(repeats) = repeats_after("sheets") {
+        return sheets_of_a_map(repeats);
     }
     let repeats = words.first().map_or(3, |n| n.parse().expect("REPEATS is a whole number"));
     println!("block 7, left-right on, best of {repeats}; every map was compared cell by cell");

@@ -1,4 +1,4 @@
-//! The examples of the README: the text there is the text compiled here, and both answer the worked example of document 01.
+//! The examples of the README: the text there is the text compiled here. The two matches answer the worked example of document 01.
 use std::fs::read_to_string;
 use std::path::{Path, PathBuf};
 use std::process::Command;
@@ -15,9 +15,9 @@ fn printed(command: &mut Command) -> String {
 }
 
 #[test]
-fn the_readme_shows_both() {
+fn the_readme_shows_them() {
     let readme = read_to_string(repository().join("README.md")).expect("README.md");
-    for name in ["match.c", "match.rs"] {
+    for name in ["match.c", "match.rs", "sheet.rs"] {
         let text = read_to_string(repository().join("host/plombrisa/examples").join(name)).expect(name);
         assert!(readme.contains(&text), "README.md does not show {name} as it is");
     }
@@ -66,10 +66,16 @@ fn the_header_declares_the_exports_as_they_are() {
     assert_eq!(printed_by("tests/header.c"), "");
 }
 
-#[test]
-fn the_rust_example_runs() {
+/// What a Rust example prints.
+fn printed_by_example(name: &str) -> String {
     let cargo = std::env::var("CARGO").expect("cargo runs the tests");
     let mut command = Command::new(cargo);
-    command.args(["run", "--quiet", "--release", "-p", "plombrisa", "--example", "match"]).current_dir(repository().join("host"));
-    assert_eq!(printed(&mut command), "disparity at (2, 1): 1\n");
+    command.args(["run", "--quiet", "--release", "-p", "plombrisa", "--example", name]).current_dir(repository().join("host"));
+    printed(&mut command)
+}
+
+#[test]
+fn the_rust_examples_run() {
+    assert_eq!(printed_by_example("match"), "disparity at (2, 1): 1\n");
+    assert_eq!(printed_by_example("sheet"), "8 bytes: [01, 00, 02, 02, 00, 09, 02, 01]\n2 by 2: [NaN, 4.0, -1.0, 0.0]\n");
 }
