@@ -14,7 +14,6 @@ use lib.Ieee.{Float}
 use Rattle.sheets.specs.declared.number.Found.{Found}
 use Rattle.sheets.specs.declared.number.Found.the-variants as found
 use Rattle.sheets.specs.declared.code.Kind.{Kind}
-use Rattle.sheets.specs.declared.code.Stored.{Stored}
 use Rattle.sheets.specs.declared.code.Stored.the-variants as stored
 use Rattle.sheets.specs.declared.reading.FoundCell.{FoundCell}
 use Rattle.sheets.specs.declared.reading.FoundCell.the-variants as cell
@@ -27,7 +26,7 @@ use Rattle.sheets.specs.Limits.{sheetSideMost, isSheetSide}
 use Rattle.sheets.specs.Steps.{Or, is, refused, andThen, given}
 use Rattle.sheets.specs.Number.{Taken, takeNumber}
 use Rattle.sheets.specs.Code.{kindOf, cellOf}
-use Rattle.sheets.specs.Sheet.{Head, takeVersion, takeSide, takeHead, takeCell, takeCells, cellsAfterHead, sheetWith, readSheet}
+use Rattle.sheets.specs.Sheet.{Head, takeVersion, takeSide, takeHead, TakenCell, takeCell, takeCells, cellsAfterHead, sheetWith, readSheet}
 use Rattle.sheets.specs.Outcome.{ReadDone}
 use Rattle.sheets.specs.Answers.{FoundAs, CellAs, HeadAs, storedAs, checkedAs, Accepted, listIn, checkedHead}
 use Rattle.sheets.proofs.Stepwise.{not-refused, same-result, same-refusal, then-is, given-is}
@@ -84,6 +83,13 @@ module _ (s : List ℕ) (k : Kind) (rest : List ℕ) (r : Found) (h : FoundAs s 
   unfolding takeCell
   cell-unread n e = rw (found-refused s (takeNumber rest) r h n e)
 
+module _ (s : List ℕ) (t : Or TakenCell) (r : FoundCell) (h : CellAs s t r) where
+  pub found-cell : (x : Float) (next : ℕ) → r ≡ cell.Cell x next → CellAs s t (cell.Cell x next)
+  found-cell x next e = subst (λ (r : FoundCell). CellAs s t r) e h
+
+  pub cell-refused : (n : ℕ) → r ≡ cell.Refused n → t ≡ refused n
+  cell-refused n e = subst (λ (r : FoundCell). CellAs s t r) e h
+
 -- ---- looking at the cells one by one: from a place on there are as many as are left, and they are refused as all are
 pub record Checking (k : Kind) (count : ℕ) (s : List ℕ) (at next i : ℕ) : Type 0 where
   pub within : i ≤ count
@@ -104,7 +110,7 @@ module _ (k : Kind) (count : ℕ) (s : List ℕ) (at next i : ℕ) (c : Checking
     pub checking-next : (x : Float) (past : ℕ) → r ≡ cell.Cell x past → Checking k count s at past (i + 1)
     unfolding takeCells
     checking-next x past e =
-        let f : CellAs s (takeCell k (drop next s)) (cell.Cell x past) = subst (λ (r : FoundCell). CellAs s (takeCell k (drop next s)) r) e h in
+        let f = found-cell s (takeCell k (drop next s)) r h x past e in
         record {
           within = omega arith;
           inside = f .1;
@@ -114,8 +120,7 @@ module _ (k : Kind) (count : ℕ) (s : List ℕ) (at next i : ℕ) (c : Checking
     pub checking-refused : (n : ℕ) → r ≡ cell.Refused n → checked.Refused n ≡ checkedAs (takeCells k count (drop at s))
     unfolding takeCells
     checking-refused n e =
-        let f : takeCell k (drop next s) ≡ refused n = subst (λ (r : FoundCell). CellAs s (takeCell k (drop next s)) r) e h in
-        sym (c .same ∙ rw (left, f))
+        sym (c .same ∙ rw (left, cell-refused s (takeCell k (drop next s)) r h n e))
 
   -- no cell is left
   module _ (l : count ≤ i) where
@@ -163,7 +168,7 @@ module _ (k : Kind) (s : List ℕ) (at : ℕ) (out₀ out : List Float) (next i 
     pub filling-next : (x : Float) (past : ℕ) → r ≡ cell.Cell x past → Filling k s at out₀ (set out i x) past (i + 1)
     unfolding takeCells
     filling-next x past e =
-        let g : CellAs s (takeCell k (drop next s)) (cell.Cell x past) = subst (λ (r : FoundCell). CellAs s (takeCell k (drop next s)) r) e h in
+        let g = found-cell s (takeCell k (drop next s)) r h x past e in
         let others = takeCells k (length out₀ - (i + 1)) (drop past s) in
         let split : takeCells k (length out₀ - i) (drop next s) ≡ andThen others (λ cells. is (x ∷ cells)) = rw (to-read, g .0) in
         let o = others-fine x others (subst (λ (c : Or (List Float)). Accepted c) split (f .fine)) in
@@ -178,8 +183,7 @@ module _ (k : Kind) (s : List ℕ) (at : ℕ) (out₀ out : List Float) (next i 
     pub filling-refused : {A : Type 0} (n : ℕ) → r ≡ cell.Refused n → A
     unfolding takeCells
     filling-refused n e =
-        let g : takeCell k (drop next s) ≡ refused n = subst (λ (r : FoundCell). CellAs s (takeCell k (drop next s)) r) e h in
-        let bad : takeCells k (length out₀ - i) (drop next s) ≡ refused n = rw (to-read, g) in
+        let bad : takeCells k (length out₀ - i) (drop next s) ≡ refused n = rw (to-read, cell-refused s (takeCell k (drop next s)) r h n e) in
         let fine : takeCells k (length out₀ - i) (drop next s) ≡ is (listIn (takeCells k (length out₀ - i) (drop next s))) = f .fine in
         let z : _≡_ {A = ℕ} 0 1 = cc in
         absurd (omega arith)

@@ -1,5 +1,5 @@
 -- THE ROUND TRIP: reading what was written gives the map back, and what was read is written as the same bytes, for both kinds. Assumes nothing.
-use Prim.Native.Nat.{ℕ, zero, suc, _*_, _^_, _≤_, _<_}
+use Prim.Native.Nat.{ℕ, zero, suc, _*_}
 use mathlib.Core.Path.{_≡_, refl, sym, ap, _∙_, subst}
 use mathlib.Core.Bool.{Bool, true, false, cond}
 use mathlib.Core.List.{List, [], _∷_, _++_, append-assoc}
@@ -20,12 +20,12 @@ use Rattle.sheets.specs.Limits.{version, sheetSideMost, isSheetSide}
 use Rattle.sheets.specs.Steps.{Or, is, refused, andThen}
 use Rattle.sheets.specs.Number.{Taken, numberBytes, takeNumber, AllBytes}
 use Rattle.sheets.specs.Code.{kindNumber, kindOf, codeOf, cellOf}
-use Rattle.sheets.specs.Sheet.{Sheet, Head, headBytes, cellsBytes, kindSheet, sheetOf, takeVersion, takeSide, takeHead, TakenCell, takeCell, takeCells, cellsAfterHead, sheetWith, readSheet, AllFit}
+use Rattle.sheets.specs.Sheet.{Sheet, Head, headBytes, cellsBytes, kindSheet, sheetOf, takeVersion, takeSide, takeHead, TakenCell, takeCell, takeCells, cellsAfterHead, readSheet, AllFit}
 use Rattle.sheets.specs.Outcome.{byteCount, outAfter, WriteDone, ReadDone}
-use Rattle.sheets.proofs.Stepwise.{not-refused, same-result, then-is, given-is}
+use Rattle.sheets.proofs.Stepwise.{not-refused, same-result, then-is}
 use Rattle.sheets.proofs.Numbers.{take-back, bytes-back}
 use Rattle.sheets.proofs.Codes.{code-back, cell-back, code-small, kind-back, kind-number, kind-small}
-use Rattle.sheets.proofs.Readings.{HeadParts, Sides, head-parts, head-sides, tested-is}
+use Rattle.sheets.proofs.Readings.{Sides, head-parts, head-sides, tested-is}
 
 -- ---- reading what was written
 

@@ -1,6 +1,6 @@
 -- `sheets::code::whole_code` meets its contract: a cell of kind 0 passes every test, and what passes them is the float of its whole part. Assumes nothing.
 use mathlib.Core.Path.{_≡_, refl, sym, ap, _∙_, subst}
-use mathlib.Core.Bool.{Bool, true, false, not, true≢false, false≢true}
+use mathlib.Core.Bool.{Bool, true, false, true≢false, false≢true}
 use Prim.Native.Nat.{ℕ, zero, suc, _+_, _*_, _^_, _≤_, _<_}
 use native.Mathlib.Nat.{mul-one, mul-comm, mul-right-comm, le-trans, mul-le-mul-right, le-of-mul-le-mul-right, div-le-of-le-mul, zero-lt-suc}
 use native.Mathlib.Omega.{arith}
