@@ -58,9 +58,8 @@ impl Kind {
     }
 }
 
-// The number of a finite cell in kind 0: where its whole part gives the cell's bits back, it has no
-// fraction, and is not minus zero. With its mark at 0, -n is 2n - 1 folded and 1 more here, n is 2n
-// folded and 1 more.
+// The number of a finite cell in kind 0, 1 more than the folded one, which is 2n - 1 of -n and 2n of n. Where its whole part gives the
+// cell's bits back, the cell has no fraction, and is not minus zero.
 fn whole_code(x: f32) -> Code
     requires { ⌜ finite x ≡ true ⌝ }
     ensures { λ r. ⌜ r ≡ codeAs (codeOf Kind.Whole x) ⌝ }
