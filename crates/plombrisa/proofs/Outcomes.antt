@@ -34,9 +34,9 @@ pub one-list : {w h : ℕ} {cells : List Float} {k : Intrinsics} {list : List Po
 one-list x y = (x .answer ∙ sym (y .answer), x .lists ∙ sym (y .lists), x .counts ∙ sym (y .counts))
 
 -- THEOREM: of a sheet that is written
-pub one-sheet : {sheet : Or (List ℕ)} {out : List ℕ} {count n m : ℕ} {out₁ out₂ : List ℕ} {count₁ count₂ : ℕ}
+pub one-written : {sheet : Or (List ℕ)} {out : List ℕ} {count n m : ℕ} {out₁ out₂ : List ℕ} {count₁ count₂ : ℕ}
     → WriteTold n sheet out out₁ count count₁ → WriteTold m sheet out out₂ count count₂ → (n ≡ m) × (out₁ ≡ out₂) × (count₁ ≡ count₂)
-one-sheet x y = (x .answer ∙ sym (y .answer), x .outs ∙ sym (y .outs), x .counts ∙ sym (y .counts))
+one-written x y = (x .answer ∙ sym (y .answer), x .outs ∙ sym (y .outs), x .counts ∙ sym (y .counts))
 
 -- THEOREM: of what a sheet says, and of its cells
 pub one-said : {s : Said} {kind width height n m kind₁ kind₂ width₁ width₂ height₁ height₂ : ℕ}

@@ -19,7 +19,7 @@ use Rattle.sheets.specs.Limits.{isWholeCell}
 use Rattle.sheets.specs.Steps.{Or, is, refused}
 use Rattle.sheets.specs.Code.{kindNumber, kindOf, folded, unfolded, isWhole, codeOf, isFinitePattern, cellOf}
 use Rattle.sheets.specs.Answers.{knownAs}
-use Rattle.sheets.proofs.Stepwise.{given-is}
+use Rattle.sheets.proofs.Stepwise.{not-refused, given-is}
 
 -- ---- the kinds
 
@@ -32,7 +32,7 @@ pub kind-number : (n : ℕ) (k : Kind) → kindOf n ≡ is k → n ≡ kindNumbe
 unfolding kindOf
 kind-number zero k e = let same : Whole ≡ k = cc in ap kindNumber same
 kind-number (suc zero) k e = let same : Exact ≡ k = cc in ap kindNumber same
-kind-number (suc (suc n)) k e = let z : _≡_ {A = ℕ} 0 1 = cc in absurd (omega arith)
+kind-number (suc (suc n)) k e = not-refused (sym e)
 
 pub kind-small : (k : Kind) → kindNumber k < 2 ^ 35
 kind-small Whole = omega arith
@@ -40,12 +40,12 @@ kind-small Exact = omega arith
 
 -- what `kind_of` answers
 pub kind-is : (c : Or Kind) (k : Kind) → known.Kind k ≡ knownAs c → c ≡ is k
-kind-is (is j) k q = let same : k ≡ j = cc in rw same
-kind-is (refused n) k q = let z : _≡_ {A = ℕ} 0 1 = cc in absurd (omega arith)
+kind-is (is j) k q = cc
+kind-is (refused n) k q = cc
 
 pub kind-refused : (c : Or Kind) (n : ℕ) → known.Refused n ≡ knownAs c → c ≡ refused n
-kind-refused (is j) n q = let z : _≡_ {A = ℕ} 0 1 = cc in absurd (omega arith)
-kind-refused (refused m) n q = let same : n ≡ m = cc in rw same
+kind-refused (is j) n q = cc
+kind-refused (refused m) n q = cc
 
 -- ---- whole numbers folded
 
@@ -177,7 +177,7 @@ code-back-exact x p f = rw (ofBits-toBits binary32 x p, f, lt-ltb (toBits binary
 pub code-back : (k : Kind) (x : Float) (n : ℕ) → T (fits binary32 x) → codeOf k x ≡ is n → cellOf k n ≡ is x
 unfolding codeOf cellOf
 code-back k nan n p e = let z : n ≡ 0 = cc in rw z
-code-back k (inf s) n p e = let z : _≡_ {A = ℕ} 0 1 = cc in absurd (omega arith)
+code-back k (inf s) n p e = not-refused (sym e)
 code-back Whole (fin s m e') n p e =
     let g = given-is (isWhole (fin s m e')) 32 (1 + folded (toSigned 31 (fin s m e'))) n e in
     rw (← g .1, one-more) (code-back-whole (fin s m e') p (g .0))
@@ -212,7 +212,7 @@ folded-most (negsuc n) = omega arith
 pub code-small : (k : Kind) (x : Float) (n : ℕ) → T (fits binary32 x) → codeOf k x ≡ is n → n < 2 ^ 35
 unfolding codeOf
 code-small k nan n p e = let z : n ≡ 0 = cc in omega arith
-code-small k (inf s) n p e = let z : _≡_ {A = ℕ} 0 1 = cc in absurd (omega arith)
+code-small k (inf s) n p e = not-refused (sym e)
 code-small Whole (fin s m e') n p e =
     let x = fin s m e' in
     let z = toSigned 31 x in

@@ -12,6 +12,7 @@ use lib.ListN.{length, getD, drop, length-append, drop-of-length-le}
 use lib.Seq.{drop-cons}
 use Rattle.sheets.specs.Steps.{Or, is, refused}
 use Rattle.sheets.specs.Number.{groups, numberBytes, Taken, above, takeGroups, takeNumber, AllBytes}
+use Rattle.sheets.proofs.Stepwise.{not-refused}
 
 -- at most one group more than may follow: at most five
 groups-most : (more n : ℕ) → length (groups more n) ≤ suc more
@@ -227,9 +228,6 @@ abbrev FromMost : ℕ → List ℕ → Taken → Type 0
 FromMost zero s t = ⊥
 FromMost (suc more) s t = From more s t
 
-never : (n : ℕ) (t : Taken) → refused n ≡ is t → ⊥
-never n t e = let z : _≡_ {A = ℕ} 0 1 = cc in omega arith
-
 from-next : (most b : ℕ) (s : List ℕ) (u t : Taken) → 128 ≤ b → b < 256 → FromMost most s u → above (b - 128) (is u) ≡ is t → From most (b ∷ s) t
 from-next (suc more) b s u t large byte from = go (ltb 0 (u .number)) refl
   where
@@ -241,22 +239,22 @@ from-next (suc more) b s u t large byte from = go (ltb 0 (u .number)) refl
         let low : 128 + t .number % 128 ≡ b = omega arith in
         let high : t .number / 128 ≡ u .number = omega arith in
         (rw (groups-next more (t .number) (omega arith), low, high, rest) (ap (λ (l : List ℕ). b ∷ l) (from .0)), rw rest (from .1))
-    go false some e = absurd (never 34 t e)
+    go false some e = not-refused (sym e)
 
 from-group : (most b : ℕ) (s : List ℕ) (t : Taken) → AllBytes (b ∷ s) → ((u : Taken) → takeMost most s ≡ is u → FromMost most s u) → takeGroups most (b ∷ s) ≡ is t → From most (b ∷ s) t
 from-group most b s t all after e = go (ltb b 128) refl
   where
     above-from : 128 ≤ b → (o : Or Taken) → takeMost most s ≡ o → above (b - 128) o ≡ is t → From most (b ∷ s) t
     above-from large (is u) read q = from-next most b s u t large (all .0) (after u read) q
-    above-from large (refused n) read q = absurd (never n t q)
+    above-from large (refused n) read q = not-refused (sym q)
 
     go : (small : Bool) → ltb b 128 ≡ small → From most (b ∷ s) t
     go true small = let h = ltb-true b 128 small in from-last most b s t h (all .1) (sym (take-last most b s h) ∙ e)
     go false small = let h = ltb-false b 128 small in above-from h (takeMost most s) refl (sym (take-next most b s h) ∙ e)
 
 groups-from : (more : ℕ) (s : List ℕ) (t : Taken) → AllBytes s → takeGroups more s ≡ is t → From more s t
-groups-from more [] t all e = absurd (never 34 t (sym (take-none (suc more)) ∙ e))
-groups-from zero (b ∷ s) t all e = from-group zero b s t all (λ u. never 34 u) e
+groups-from more [] t all e = not-refused (sym e ∙ take-none (suc more))
+groups-from zero (b ∷ s) t all e = from-group zero b s t all (λ u q. not-refused (sym q)) e
 groups-from (suc more) (b ∷ s) t all e = from-group (suc more) b s t all (λ u. groups-from more s u (all .1)) e
 
 pub bytes-back : (s : List ℕ) (t : Taken) → AllBytes s → takeNumber s ≡ is t → (s ≡ numberBytes (t .number) ++ t .rest) × AllBytes (t .rest)

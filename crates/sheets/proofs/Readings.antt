@@ -29,7 +29,7 @@ use Rattle.sheets.specs.Code.{kindOf, cellOf}
 use Rattle.sheets.specs.Sheet.{Head, takeVersion, takeSide, takeHead, TakenCell, takeCell, takeCells, cellsAfterHead, sheetWith, readSheet}
 use Rattle.sheets.specs.Outcome.{ReadDone}
 use Rattle.sheets.specs.Answers.{FoundAs, CellAs, HeadAs, storedAs, checkedAs, Accepted, listIn, checkedHead}
-use Rattle.sheets.proofs.Stepwise.{not-refused, same-result, same-refusal, then-is, given-is}
+use Rattle.sheets.proofs.Stepwise.{not-refused, not-accepted, same-result, same-refusal, then-is, given-is}
 
 -- ---- a number
 module _ (s : List ℕ) (t : Or Taken) (r : Found) (h : FoundAs s t r) where
@@ -66,8 +66,8 @@ module _ (s : List ℕ) (k : Kind) (rest : List ℕ) (r : Found) (h : FoundAs s 
       (rw (f .0, held (cellOf k n) x q), f .1)
     where
       held : (c : Or Float) (x : Float) → stored.Cell x ≡ storedAs c → c ≡ is x
-      held (is y) x q = let same : x ≡ y = cc in rw same
-      held (refused n) x q = let z : _≡_ {A = ℕ} 0 1 = cc in absurd (omega arith)
+      held (is y) x q = cc
+      held (refused n) x q = cc
 
   pub cell-none : (n next : ℕ) → r ≡ found.Number n next → (m : ℕ) → stored.Refused m ≡ storedAs (cellOf k n) → takeCell k rest ≡ refused m
   unfolding takeCell
@@ -76,8 +76,8 @@ module _ (s : List ℕ) (k : Kind) (rest : List ℕ) (r : Found) (h : FoundAs s 
       rw (f .0, none (cellOf k n) m q)
     where
       none : (c : Or Float) (m : ℕ) → stored.Refused m ≡ storedAs c → c ≡ refused m
-      none (is y) m q = let z : _≡_ {A = ℕ} 0 1 = cc in absurd (omega arith)
-      none (refused n) m q = let same : m ≡ n = cc in rw same
+      none (is y) m q = cc
+      none (refused n) m q = cc
 
   pub cell-unread : (n : ℕ) → r ≡ found.Refused n → takeCell k rest ≡ refused n
   unfolding takeCell
@@ -119,8 +119,7 @@ module _ (k : Kind) (count : ℕ) (s : List ℕ) (at next i : ℕ) (c : Checking
 
     pub checking-refused : (n : ℕ) → r ≡ cell.Refused n → checked.Refused n ≡ checkedAs (takeCells k count (drop at s))
     unfolding takeCells
-    checking-refused n e =
-        sym (c .same ∙ rw (left, cell-refused s (takeCell k (drop next s)) r h n e))
+    checking-refused n e = sym (c .same ∙ rw (left, cell-refused s (takeCell k (drop next s)) r h n e))
 
   -- no cell is left
   module _ (l : count ≤ i) where
@@ -150,7 +149,7 @@ filling-none k s at out₀ l h = record { within = zero-le; long = refl; inside 
 others-fine : (x : Float) (others : Or (List Float)) → Accepted (andThen others (λ cells. is (x ∷ cells)))
     → Accepted others × (listIn (andThen others (λ cells. is (x ∷ cells))) ≡ x ∷ listIn others)
 others-fine x (is cells) h = (refl, refl)
-others-fine x (refused n) h = let z : _≡_ {A = ℕ} 0 1 = cc in absurd (omega arith)
+others-fine x (refused n) h = not-refused (sym h)
 
 none-listed : (k : Kind) (s : List ℕ) → listIn (takeCells k 0 s) ≡ []
 unfolding takeCells
@@ -184,9 +183,7 @@ module _ (k : Kind) (s : List ℕ) (at : ℕ) (out₀ out : List Float) (next i 
     unfolding takeCells
     filling-refused n e =
         let bad : takeCells k (length out₀ - i) (drop next s) ≡ refused n = rw (to-read, cell-refused s (takeCell k (drop next s)) r h n e) in
-        let fine : takeCells k (length out₀ - i) (drop next s) ≡ is (listIn (takeCells k (length out₀ - i) (drop next s))) = f .fine in
-        let z : _≡_ {A = ℕ} 0 1 = cc in
-        absurd (omega arith)
+        not-accepted (takeCells k (length out₀ - i) (drop next s)) bad (f .fine)
 
   pub filling-done : length out ≤ i → takeCells k (length out₀) (drop at s) ≡ is out
   filling-done l =
@@ -278,15 +275,15 @@ module _ (s : List ℕ) (h : Head) (e : takeHead s ≡ is h) where
   cells-refused n q = rw e (go (cellsAfterHead h) q)
     where
       go : (cells : Or (List Float)) → checked.Refused n ≡ checkedAs cells → andThen cells (λ _. is h) ≡ refused n
-      go (is cells) q = let z : _≡_ {A = ℕ} 0 1 = cc in absurd (omega arith)
-      go (refused m) q = let same : n ≡ m = cc in rw same
+      go (is cells) q = cc
+      go (refused m) q = cc
 
   pub cells-fine : checked.Fine ≡ checkedAs (cellsAfterHead h) → checkedHead s ≡ is h
   cells-fine q = rw e (go (cellsAfterHead h) q)
     where
       go : (cells : Or (List Float)) → checked.Fine ≡ checkedAs cells → andThen cells (λ _. is h) ≡ is h
       go (is cells) q = refl
-      go (refused m) q = let z : _≡_ {A = ℕ} 0 1 = cc in absurd (omega arith)
+      go (refused m) q = cc
 
 -- what a head says whose cells were looked at
 pub record Looked (s : List ℕ) (head : Head) : Type 0 where

@@ -4,7 +4,7 @@ use mathlib.Core.Path.{_≡_, refl, sym, ap, _∙_, subst}
 use mathlib.Core.Bool.{Bool, true, false, cond}
 use mathlib.Core.List.{List, [], _∷_, _++_, append-assoc}
 use native.Mathlib.Omega.{arith}
-use borrow.Author.Tests.{le-leb, eq-eqb, leb-true, eqb-true}
+use borrow.Author.Tests.{le-leb, eq-eqb, eqb-true}
 use lib.Dec.{leb, eqb}
 use lib.ListN.{length, take, drop}
 use lib.Seq.{take-at}
@@ -25,7 +25,7 @@ use Rattle.sheets.specs.Outcome.{byteCount, outAfter, WriteDone, ReadDon
 use Rattle.sheets.proofs.Stepwise.{not-refused, same-result, then-is}
 use Rattle.sheets.proofs.Numbers.{take-back, bytes-back}
 use Rattle.sheets.proofs.Codes.{code-back, cell-back, code-small, kind-back, kind-number, kind-small}
-use Rattle.sheets.proofs.Readings.{Sides, head-parts, head-sides, tested-is}
+use Rattle.sheets.proofs.Readings.{Sides, side-most, head-parts, head-sides, tested-is}
 
 -- ---- reading what was written
 
@@ -44,9 +44,7 @@ cells-read k (x ∷ xs) bytes fit e =
 
 side-read : (n : ℕ) (rest : List ℕ) → isSheetSide n ≡ true → takeSide (numberBytes n ++ rest) ≡ is (record { number = n; rest = rest })
 unfolding takeSide
-side-read n rest t =
-    let most = leb-true n sheetSideMost (and-both (leb 1 n) (leb n sheetSideMost) t .1) in
-    rw (take-back n rest (omega arith), t)
+side-read n rest t = rw (take-back n rest (omega (arith, side-most n t)), t)
 
 -- four parts and what follows them, one after another
 straight : (a b c d e : List ℕ) → a ++ b ++ c ++ d ++ e ≡ a ++ (b ++ (c ++ (d ++ e)))

@@ -1,9 +1,11 @@
 -- What a run of steps that was not refused says of each step. Assumes nothing.
 use Prim.Native.Nat.{ℕ}
-use mathlib.Core.Path.{_≡_, refl, sym}
+use mathlib.Core.Path.{_≡_, refl, sym, _∙_}
 use mathlib.Core.Bool.{Bool, true, false}
+use mathlib.Core.List.{List}
 use native.Mathlib.Omega.{arith}
 use Rattle.sheets.specs.Steps.{Or, is, refused, andThen, given}
+use Rattle.sheets.specs.Answers.{Accepted}
 
 -- a result is no refusal
 pub not-refused : {A B : Type 0} {a : A} {n : ℕ} → is a ≡ refused n → B
@@ -14,6 +16,10 @@ same-result e = cc
 
 pub same-refusal : {A : Type 0} {m n : ℕ} → _≡_ {A = Or A} (refused m) (refused n) → m ≡ n
 same-refusal e = cc
+
+-- an accepted list is not refused
+pub not-accepted : {A B : Type 0} {n : ℕ} (list : Or (List A)) → list ≡ refused n → Accepted list → B
+not-accepted list e a = not-refused (sym a ∙ e)
 
 -- both steps had a result
 pub then-is : {A B : Type 0} (o : Or A) (next : A → Or B) (b : B) → andThen o next ≡ is b → (a : A) × (o ≡ is a) × (next a ≡ is b)

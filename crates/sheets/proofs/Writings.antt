@@ -29,6 +29,7 @@ use Rattle.sheets.specs.Code.{kindNumber, kindOf, codeOf}
 use Rattle.sheets.specs.Sheet.{headBytes, cellsBytes, kindSheet, sheetOf}
 use Rattle.sheets.specs.Outcome.{byteCount, WriteDone}
 use Rattle.sheets.specs.Answers.{knownAs, codeAs, CodeSmall, listIn, Accepted}
+use Rattle.sheets.proofs.Stepwise.{not-accepted}
 use Rattle.sheets.proofs.Numbers.{number-most}
 use Rattle.sheets.proofs.Codes.{kind-is, kind-refused, kind-small}
 
@@ -45,9 +46,6 @@ behind-nil (refused n) = refl
 behind-append : (a b : List ℕ) (list : Or (List ℕ)) → behind a (behind b list) ≡ behind (a ++ b) list
 behind-append a b (is bytes) = ap is (sym (append-assoc a b bytes))
 behind-append a b (refused n) = refl
-
-pub not-both : {n : ℕ} {list : Or (List ℕ)} → list ≡ refused n → Accepted list → ⊥
-not-both e a = let z : _≡_ {A = ℕ} 0 1 = cc in omega arith
 
 -- ---- the cells that a loop has passed
 
@@ -85,7 +83,7 @@ module _ (k : Kind) (cells : List Float) where
       where
         go : (rest all : Or (List ℕ)) → all ≡ behind done rest → Accepted all → length done ≤ length (listIn all)
         go (is bytes) all e h = rw e (omega (arith, length-append done bytes))
-        go (refused n) all e h = let z : _≡_ {A = ℕ} 0 1 = cc in omega arith
+        go (refused n) all e h = not-accepted all e h
 
     module _ (n : ℕ) (b : i < length cells) where
       pub passed-more : codeOf k (getD cells i nan) ≡ is n → Passed k cells (i + 1) (done ++ numberBytes n)

@@ -30,7 +30,7 @@ folded (negsuc n) = 2 * n + 1
 abbrev pub unfolded : ℕ → ℤ
 unfolded m = cond (eqb (m % 2) 0) (pos (m / 2)) (negsuc (m / 2))
 
--- a finite cell that kind 0 holds: no fraction and not minus zero (`whole` says both), and in the version's range
+-- a finite cell that kind 0 holds: no fraction and not minus zero (`whole` says both), and in the version's range; `toSigned 31` is the cell as an i32
 abbrev pub isWhole : Float → Bool
 isWhole x = whole binary32 x && isWholeCell (toSigned 31 x)
 

@@ -1,9 +1,7 @@
 //! A map's sheet written and read, beside the plain Rust that host/sheets_run holds it to.
-#[path = "../../sheets_run/src/format.rs"]
-mod format;
-
 use crate::best_of;
 use plombrisa::{Map, read_sheet_in, sheet_length_in, write_sheet_in};
+use sheets_run::format;
 use std::hint::black_box;
 
 /// A row of the table: seconds of the library and of the plain Rust, writing and reading one map.

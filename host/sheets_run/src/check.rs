@@ -1,11 +1,11 @@
 //! One input on both sides: the library's answer and every lent cell, held to `format`.
-use crate::format::{self, Head};
 use crate::maps::Writing;
 use crate::room::Room;
 use crate::sheets::Reading;
 use plombrisa::{
     Kind, Map, Refusal, read_sheet, read_sheet_in, sheet_length_in, sheet_size_in, write_sheet, write_sheet_in,
 };
+use sheets_run::format::{self, Head};
 use std::fmt::Debug;
 
 /// What a lent number holds before a call: no count, no kind and no side.

@@ -5,7 +5,6 @@
 //! status is 1 after a difference, with the input, and where some refusal was never answered, for then the inputs were too few to
 //! say anything of it.
 mod check;
-mod format;
 mod maps;
 #[path = "../../differential/src/rng.rs"]
 mod rng;

@@ -1,7 +1,7 @@
 //! Bytes to be read: sheets, and sheets with one fault or more of every kind that a mail, a disk or an ill-wisher makes.
-use crate::format;
 use crate::maps;
 use crate::rng::Rng;
+use sheets_run::format;
 use std::fmt;
 
 /// Bytes to be read: the first `len` of them, and a reader that runs on finds more behind. A sheet is made here as numbers first,

@@ -1,0 +1,2 @@
+//! Sheets in plain Rust, for the run that holds the library to them and for the benchmark.
+pub mod format;
