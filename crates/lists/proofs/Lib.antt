@@ -6,3 +6,5 @@ pub mod Clearing
 pub mod Copying
 pub mod Rows
 pub mod Stores
+pub mod Stepwise
+pub mod Writes

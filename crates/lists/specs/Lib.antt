@@ -2,4 +2,6 @@
 pub mod Lists
 pub mod Rows
 pub mod Stores
+pub mod Steps
+pub mod Writes
 pub mod Turned

@@ -9,7 +9,7 @@ use Rattle.points.specs.declared.Intrinsics.{Intrinsics}
 use Rattle.points.specs.declared.Point3.{Point3}
 use Rattle.points.specs.declared.PointRecord.{PointRecord}
 use Rattle.sheets.specs.declared.reading.Said.{Said}
-use Rattle.sheets.specs.Steps.{Or}
+use Rattle.lists.specs.Steps.{Or}
 use Rattle.sheets.specs.Sheet.{Sheet}
 use Rattle.plombrisa.specs.Answers.{RangeTold, PointTold, PointsTold, WriteTold, SaidTold, ReadTold}
 
@@ -33,9 +33,9 @@ pub one-list : {w h : ℕ} {cells : List Float} {k : Intrinsics} {list : List Po
     → PointsTold n w h cells k list list₁ count count₁ → PointsTold m w h cells k list list₂ count count₂ → (n ≡ m) × (list₁ ≡ list₂) × (count₁ ≡ count₂)
 one-list x y = (x .answer ∙ sym (y .answer), x .lists ∙ sym (y .lists), x .counts ∙ sym (y .counts))
 
--- THEOREM: of a sheet that is written
-pub one-written : {sheet : Or (List ℕ)} {out : List ℕ} {count n m : ℕ} {out₁ out₂ : List ℕ} {count₁ count₂ : ℕ}
-    → WriteTold n sheet out out₁ count count₁ → WriteTold m sheet out out₂ count count₂ → (n ≡ m) × (out₁ ≡ out₂) × (count₁ ≡ count₂)
+-- THEOREM: of a text that is written
+pub one-written : {short : ℕ} {text : Or (List ℕ)} {out : List ℕ} {count n m : ℕ} {out₁ out₂ : List ℕ} {count₁ count₂ : ℕ}
+    → WriteTold short n text out out₁ count count₁ → WriteTold short m text out out₂ count count₂ → (n ≡ m) × (out₁ ≡ out₂) × (count₁ ≡ count₂)
 one-written x y = (x .answer ∙ sym (y .answer), x .outs ∙ sym (y .outs), x .counts ∙ sym (y .counts))
 
 -- THEOREM: of what a sheet says, and of its cells

@@ -20,14 +20,15 @@ use Rattle.points.specs.declared.Filled.the-variants as filled
 use Rattle.points.specs.declared.Intrinsics.{Intrinsics}
 use Rattle.points.specs.declared.PointRecord.{PointRecord}
 use Rattle.points.specs.Records.{answerOf, listAfter}
-use Rattle.sheets.specs.declared.writing.Written.{Written}
-use Rattle.sheets.specs.declared.writing.Written.the-variants as written
+use Rattle.lists.specs.declared.Written.{Written}
+use Rattle.lists.specs.declared.Written.the-variants as written
 use Rattle.sheets.specs.declared.reading.Said.{Said}
 use Rattle.sheets.specs.declared.reading.Said.the-variants as said
-use Rattle.sheets.specs.Steps.{Or}
+use Rattle.lists.specs.Steps.{Or}
 use Rattle.sheets.specs.Code.{kindNumber}
 use Rattle.sheets.specs.Sheet.{Sheet}
-use Rattle.sheets.specs.Outcome.{roomFor, byteCount, outAfter, cellsFor, sizeSaid, cellsAfter}
+use Rattle.lists.specs.Writes.{roomFor, byteCount, outAfter}
+use Rattle.sheets.specs.Outcome.{cellsFor, sizeSaid, cellsAfter}
 
 -- of a pixel: the level
 abbrev pub levelRefusal : Level → ℕ
@@ -120,7 +121,7 @@ pub record PointsTold (n w h : ℕ) (cells : List Float) (k : Intrinsics) (list 
   pub lists : list′ ≡ listAfter w h cells k list
   pub counts : count′ ≡ filledAfter (answerOf w h cells k (length list)) count
 
--- of a sheet that is written: the byte count
+-- of a text that is written, where `short` refuses an output that is too short: the byte count
 abbrev pub writtenRefusal : Written → ℕ
 writtenRefusal (written.Bytes v) = 0
 writtenRefusal (written.Refused n) = n
@@ -129,10 +130,10 @@ abbrev pub writtenAfter : Written → ℕ → ℕ
 writtenAfter (written.Bytes v) was = v
 writtenAfter (written.Refused n) was = was
 
-pub record WriteTold (n : ℕ) (sheet : Or (List ℕ)) (out out′ : List ℕ) (count count′ : ℕ) : Type 0 where
-  pub answer : n ≡ writtenRefusal (byteCount (roomFor (length out) sheet))
-  pub outs : out′ ≡ outAfter (roomFor (length out) sheet) out
-  pub counts : count′ ≡ writtenAfter (byteCount (roomFor (length out) sheet)) count
+pub record WriteTold (short n : ℕ) (text : Or (List ℕ)) (out out′ : List ℕ) (count count′ : ℕ) : Type 0 where
+  pub answer : n ≡ writtenRefusal (byteCount (roomFor short (length out) text))
+  pub outs : out′ ≡ outAfter (roomFor short (length out) text) out
+  pub counts : count′ ≡ writtenAfter (byteCount (roomFor short (length out) text)) count
 
 -- of a sheet that is read: its kind's number, width and height
 abbrev pub saidRefusal : Said → ℕ

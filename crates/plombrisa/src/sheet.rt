@@ -2,12 +2,13 @@
 // its number.
 ghost use mathlib.Core.Path.{_≡_};
 ghost use Rattle.sheets.specs.Sheet.{sheetOf, readSheet};
-ghost use Rattle.sheets.specs.Outcome.{byteCount, sizeSaid};
+ghost use Rattle.lists.specs.Writes.{byteCount};
+ghost use Rattle.sheets.specs.Outcome.{sizeSaid};
 ghost use Rattle.plombrisa.specs.Answers.{writtenRefusal, writtenAfter, WriteTold, SaidTold, ReadTold};
 use sheets::reading::Said;
 use sheets::reading::read_sheet;
 use sheets::reading::sheet_size;
-use sheets::writing::Written;
+use lists::Written;
 use sheets::writing::sheet_length;
 use sheets::writing::write_sheet;
 
@@ -48,7 +49,7 @@ pub extern "C" fn plombrisa_write_sheet(
     out: &mut [u8],
     count: &mut u64,
 ) -> u32
-    ensures { λ n. ⌜ WriteTold n (sheetOf kind width height (now (cells .entry))) (now (out .entry)) (now (out .exit)) (now (count .entry)) (now (count .exit)) ⌝ }
+    ensures { λ n. ⌜ WriteTold 33 n (sheetOf kind width height (now (cells .entry))) (now (out .entry)) (now (out .exit)) (now (count .entry)) (now (count .exit)) ⌝ }
 {
     tell_bytes(write_sheet(cells, width, height, kind, out), count)
 }

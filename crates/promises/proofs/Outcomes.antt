@@ -31,10 +31,11 @@ use Rattle.costs.specs.Outcome.{rawCall, RawDone}
 use Rattle.costs.proofs.Outcomes as costs
 use Rattle.matching.specs.Outcome.{matchCall, MatchDone}
 use Rattle.matching.proofs.Outcomes as matching
-use Rattle.sheets.specs.declared.writing.Written.{Written}
+use Rattle.lists.specs.declared.Written.{Written}
 use Rattle.sheets.specs.declared.reading.Said.{Said}
 use Rattle.sheets.specs.Sheet.{sheetOf, readSheet}
-use Rattle.sheets.specs.Outcome.{byteCount, sizeSaid, WriteDone, ReadDone}
+use Rattle.lists.specs.Writes.{byteCount, WriteDone}
+use Rattle.sheets.specs.Outcome.{sizeSaid, ReadDone}
 
 -- two answers that are both what a definition says
 both : {A : Type 0} {d r r′ : A} → r ≡ d → r′ ≡ d → r ≡ r′
@@ -120,7 +121,7 @@ pub sheet-length : (kind w h : ℕ) (cells : List Float) (r r′ : Written) → 
 sheet-length kind w h cells r r′ = both
 
 pub write-sheet : (kind w h : ℕ) (cells : List Float) (out : List ℕ) (r r′ : Written) (out₁ out₂ : List ℕ)
-    → WriteDone r (sheetOf kind w h cells) out out₁ → WriteDone r′ (sheetOf kind w h cells) out out₂ → (r ≡ r′) × (out₁ ≡ out₂)
+    → WriteDone 33 r (sheetOf kind w h cells) out out₁ → WriteDone 33 r′ (sheetOf kind w h cells) out out₂ → (r ≡ r′) × (out₁ ≡ out₂)
 write-sheet kind w h cells out r r′ out₁ out₂ e e′ = (both (e .answers) (e′ .answers), both (e .outs) (e′ .outs))
 
 -- what a sheet is, and read, with the output afterwards

@@ -21,9 +21,10 @@ use Rattle.points.specs.declared.Intrinsics.{Intrinsics}
 use Rattle.points.specs.declared.Filled.the-variants.{Refused}
 use Rattle.points.specs.Records.{answerOf}
 use Rattle.sheets.specs.declared.code.Kind.the-variants.{Whole}
-use Rattle.sheets.specs.Steps.{is, refused}
+use Rattle.lists.specs.Steps.{is, refused}
 use Rattle.sheets.specs.Sheet.{sheetOf, readSheet}
-use Rattle.sheets.specs.Outcome.{roomFor, cellsFor}
+use Rattle.lists.specs.Writes.{roomFor}
+use Rattle.sheets.specs.Outcome.{cellsFor}
 
 -- a match of a left picture w wide and 3 high with so many bytes and a right one likewise, the first disparity, count, block side and
 -- mode, a penalty, and the lengths of the output and of the whole-number room; penalty p2 is 1, and the float room has 105 cells
@@ -107,8 +108,8 @@ pub record Reached : Type 0 where
   pub write-35 : sheetOf 2 1 1 (one ∷ []) ≡ refused 35
   pub write-31 : sheetOf 1 1 1 (inf true ∷ []) ≡ refused 31
   pub write-32 : sheetOf 0 1 1 (fin true 0 (pos 0) ∷ []) ≡ refused 32
-  pub write-33 : roomFor 4 (sheetOf 0 1 1 (one ∷ [])) ≡ refused 33
-  pub write-is : roomFor 5 (sheetOf 0 1 1 (one ∷ [])) ≡ is oneSheet
+  pub write-33 : roomFor 33 4 (sheetOf 0 1 1 (one ∷ [])) ≡ refused 33
+  pub write-is : roomFor 33 5 (sheetOf 0 1 1 (one ∷ [])) ≡ is oneSheet
   -- bytes that say nothing: a number that is cut, one not shortest, one of six groups, a version 2, a kind 2, a width 0, a cell's number
   -- one too large, and a byte left over; and an output of two cells
   pub read-34 : readSheet (0x81 ∷ []) ≡ refused 34

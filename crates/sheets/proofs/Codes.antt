@@ -16,10 +16,10 @@ use Rattle.sheets.specs.declared.code.Kind.{Kind}
 use Rattle.sheets.specs.declared.code.Kind.the-variants.{Whole, Exact}
 use Rattle.sheets.specs.declared.code.Known.the-variants as known
 use Rattle.sheets.specs.Limits.{isWholeCell}
-use Rattle.sheets.specs.Steps.{Or, is, refused}
+use Rattle.lists.specs.Steps.{Or, is, refused}
 use Rattle.sheets.specs.Code.{kindNumber, kindOf, folded, unfolded, isWhole, codeOf, isFinitePattern, cellOf}
 use Rattle.sheets.specs.Answers.{knownAs}
-use Rattle.sheets.proofs.Stepwise.{not-refused, given-is}
+use Rattle.lists.proofs.Stepwise.{not-refused, given-is}
 
 -- ---- the kinds
 

@@ -7,7 +7,7 @@ use lib.IntN.{pos}
 use lib.Ieee.{Float, nan, fin, whole, toSigned, ofInt, toBits, ofBits, ofFields, round, size, climb, span, units, odd}
 use Rattle.maps.specs.Map.{goodSize}
 use Rattle.sheets.specs.declared.code.Kind.the-variants.{Whole, Exact}
-use Rattle.sheets.specs.Steps.{is}
+use Rattle.lists.specs.Steps.{is}
 use Rattle.sheets.specs.Number.{groups, numberBytes, takeGroups, takeNumber}
 use Rattle.sheets.specs.Code.{kindOf, codeOf, cellOf}
 use Rattle.sheets.specs.Sheet.{headBytes, cellsBytes, kindSheet, sheetOf, takeVersion, takeSide, takeHead, takeCell, takeCells, readSheet}

@@ -1,5 +1,4 @@
 -- The laws of the sheet.
-pub mod Stepwise
 pub mod Numbers
 pub mod Codes
 pub mod Writings

@@ -23,13 +23,13 @@ use Rattle.sheets.specs.declared.reading.Said.the-variants as said
 use Rattle.sheets.specs.declared.reading.Checked.the-variants as checked
 use Rattle.lists.proofs.Tests.{and-both}
 use Rattle.sheets.specs.Limits.{sheetSideMost, isSheetSide}
-use Rattle.sheets.specs.Steps.{Or, is, refused, andThen, given}
+use Rattle.lists.specs.Steps.{Or, is, refused, andThen, given, Accepted, listIn}
 use Rattle.sheets.specs.Number.{Taken, takeNumber}
 use Rattle.sheets.specs.Code.{kindOf, cellOf}
 use Rattle.sheets.specs.Sheet.{Head, takeVersion, takeSide, takeHead, TakenCell, takeCell, takeCells, cellsAfterHead, sheetWith, readSheet}
 use Rattle.sheets.specs.Outcome.{ReadDone}
-use Rattle.sheets.specs.Answers.{FoundAs, CellAs, HeadAs, storedAs, checkedAs, Accepted, listIn, checkedHead}
-use Rattle.sheets.proofs.Stepwise.{not-refused, not-accepted, same-result, same-refusal, then-is, given-is}
+use Rattle.sheets.specs.Answers.{FoundAs, CellAs, HeadAs, storedAs, checkedAs, checkedHead}
+use Rattle.lists.proofs.Stepwise.{not-refused, not-accepted, same-result, same-refusal, then-is, given-is}
 
 -- ---- a number
 module _ (s : List ℕ) (t : Or Taken) (r : Found) (h : FoundAs s t r) where

@@ -13,16 +13,18 @@ use Rattle.lists.proofs.Tests.{and-both}
 use Rattle.maps.specs.Map.{goodSize}
 use Rattle.maps.proofs.Facts.{good}
 use Rattle.sheets.specs.declared.code.Kind.{Kind}
-use Rattle.sheets.specs.declared.writing.Written.the-variants as written
+use Rattle.lists.specs.declared.Written.the-variants as written
 use Rattle.sheets.specs.declared.reading.Said.{Said}
 use Rattle.sheets.specs.declared.reading.Said.the-variants as said
 use Rattle.sheets.specs.Limits.{version, sheetSideMost, isSheetSide}
-use Rattle.sheets.specs.Steps.{Or, is, refused, andThen}
+use Rattle.lists.specs.Steps.{Or, is, refused, andThen}
 use Rattle.sheets.specs.Number.{Taken, numberBytes, takeNumber, AllBytes}
 use Rattle.sheets.specs.Code.{kindNumber, kindOf, codeOf, cellOf}
 use Rattle.sheets.specs.Sheet.{Sheet, Head, headBytes, cellsBytes, kindSheet, sheetOf, takeVersion, takeSide, takeHead, TakenCell, takeCell, takeCells, cellsAfterHead, readSheet, AllFit}
-use Rattle.sheets.specs.Outcome.{byteCount, outAfter, WriteDone, ReadDone}
-use Rattle.sheets.proofs.Stepwise.{not-refused, same-result, then-is}
+use Rattle.lists.specs.Writes.{WriteDone}
+use Rattle.lists.proofs.Writes.{written-is}
+use Rattle.sheets.specs.Outcome.{ReadDone}
+use Rattle.lists.proofs.Stepwise.{not-refused, same-result, then-is}
 use Rattle.sheets.proofs.Numbers.{take-back, bytes-back}
 use Rattle.sheets.proofs.Codes.{code-back, cell-back, code-small, kind-back, kind-number, kind-small}
 use Rattle.sheets.proofs.Readings.{Sides, side-most, head-parts, head-sides, tested-is}
@@ -187,18 +189,9 @@ one-sheet s s′ d all all′ e e′ = same-result (sym (writes-back s d all e) 
 
 -- ---- the same of the calls
 
--- what an answered byte count says
-written-is : (sheet : Or (List ℕ)) (n : ℕ) (out out′ : List ℕ) → WriteDone (written.Bytes n) sheet out out′ → sheet ≡ is (take n out′)
-written-is (refused m) n out out′ d = let e = d .answers in cc
-written-is (is bytes) n out out′ d = go (leb (length bytes) (length out)) (d .answers) (d .outs)
-  where
-    go : (t : Bool) → written.Bytes n ≡ byteCount (cond t (is bytes) (refused 33)) → out′ ≡ outAfter (cond t (is bytes) (refused 33)) out → is bytes ≡ is (take n out′)
-    go true e o = let count : n ≡ length bytes = cc in rw (o, count, take-at bytes (drop (length bytes) out) (length bytes) refl)
-    go false e o = cc
-
 -- THEOREM: a map that was written and whose bytes were read into as many cells is there again
 pub mailed : (kind : ℕ) (k : Kind) (w h : ℕ) (cells : List Float) (n : ℕ) (out out′ : List ℕ) (r : Said) (back back′ : List Float) → AllFit cells → kindOf kind ≡ is k
-    → WriteDone (written.Bytes n) (sheetOf kind w h cells) out out′
+    → WriteDone 33 (written.Bytes n) (sheetOf kind w h cells) out out′
     → ReadDone r (readSheet (take n out′)) back back′ → length back ≡ w * h
     → (r ≡ said.Map k w h) × (back′ ≡ cells)
 mailed kind k w h cells n out out′ r back back′ fit known done read size =

@@ -1,17 +1,13 @@
 -- What the proofs of writing a sheet share: the cells that a loop has passed, and what the calls answer. Assumes nothing.
 use Prim.Native.Nat.{ℕ, _+_, _*_, _^_, _≤_, _<_}
-use native.Mathlib.Nat.{zero-add}
 use native.Mathlib.Numerals.{add-one}
 use native.Mathlib.Omega.{arith}
 use mathlib.Core.Path.{_≡_, refl, sym, ap, _∙_}
 use mathlib.Core.Bool.{Bool, true, false}
 use mathlib.Core.List.{List, [], _∷_, _++_, append-nil, append-assoc}
-use borrow.Author.Tests.{le-leb, lt-leb}
 use lib.ListN.{length, getD, drop, drop-of-length-le, length-append}
 use lib.Seq.{drop-cons}
 use lib.Ieee.{Float, nan}
-use Rattle.lists.specs.Stores.{Wrote}
-use Rattle.lists.proofs.Stores.{wrote-front}
 use Rattle.options.specs.Limits.{sideMost}
 use Rattle.maps.specs.Map.{goodSize}
 use Rattle.maps.proofs.Facts.{good, pixels-small}
@@ -20,16 +16,17 @@ use Rattle.sheets.specs.declared.code.Known.{Known}
 use Rattle.sheets.specs.declared.code.Known.the-variants as known
 use Rattle.sheets.specs.declared.code.Code.{Code}
 use Rattle.sheets.specs.declared.code.Code.the-variants as code
-use Rattle.sheets.specs.declared.writing.Written.{Written}
-use Rattle.sheets.specs.declared.writing.Written.the-variants as written
+use Rattle.lists.specs.declared.Written.{Written}
+use Rattle.lists.specs.declared.Written.the-variants as written
 use Rattle.sheets.specs.Limits.{version}
-use Rattle.sheets.specs.Steps.{Or, is, refused, andThen}
+use Rattle.lists.specs.Steps.{Or, is, refused, andThen, listIn, Accepted}
 use Rattle.sheets.specs.Number.{numberBytes}
 use Rattle.sheets.specs.Code.{kindNumber, kindOf, codeOf}
 use Rattle.sheets.specs.Sheet.{headBytes, cellsBytes, kindSheet, sheetOf}
-use Rattle.sheets.specs.Outcome.{byteCount, WriteDone}
-use Rattle.sheets.specs.Answers.{knownAs, codeAs, CodeSmall, listIn, Accepted}
-use Rattle.sheets.proofs.Stepwise.{not-accepted}
+use Rattle.lists.specs.Writes.{byteCount}
+use Rattle.sheets.specs.Answers.{knownAs, codeAs, CodeSmall}
+use Rattle.lists.proofs.Stepwise.{not-accepted}
+use Rattle.lists.proofs.Writes.{Measured}
 use Rattle.sheets.proofs.Numbers.{number-most}
 use Rattle.sheets.proofs.Codes.{kind-is, kind-refused, kind-small}
 
@@ -127,19 +124,6 @@ four-most a b c d = omega (arith, number-most a, number-most b, number-most c, n
 
 -- ---- a sheet's byte count
 
--- bytes that were measured: they are not refused, and n is their count
-pub record Measured (list : Or (List ℕ)) (n : ℕ) : Type 0 where
-  pub accepted : Accepted list
-  pub count : length (listIn list) ≡ n
-
-pub measured : {n : ℕ} (list : Or (List ℕ)) (r : Written) → r ≡ byteCount list → r ≡ written.Bytes n → Measured list n
-measured (is bytes) r e h = record { accepted = refl; count = cc }
-measured (refused m) r e h = record { accepted = cc; count = cc }
-
-pub count-refused : {n : ℕ} (list : Or (List ℕ)) (r : Written) → r ≡ byteCount list → r ≡ written.Refused n → list ≡ refused n
-count-refused (is bytes) r e h = cc
-count-refused (refused m) r e h = cc
-
 counted-same : {m n : ℕ} → written.Bytes m ≡ written.Bytes n → m ≡ n
 counted-same e = cc
 
@@ -197,24 +181,6 @@ module _ (kind w h : ℕ) (cells : List Float) (t : Bool) (e : t ≡ goodSize w 
     unfolding sheetOf
     sheet-35 n s = rw (sym e ∙ q, kind-refused (kindOf kind) n (sym s ∙ l))
 
--- ---- what a call of `write_sheet` does
-
-pub done-refused : {n : ℕ} {sheet : Or (List ℕ)} (out : List ℕ) → sheet ≡ refused n → WriteDone (written.Refused n) sheet out out
-done-refused out e = rw e (record { answers = refl; outs = refl })
-
-pub done-short : {n : ℕ} {sheet : Or (List ℕ)} (out : List ℕ) → Measured sheet n → length out < n → WriteDone (written.Refused 33) sheet out out
-done-short {n} {sheet} out c b = go sheet c
-  where
-    go : (s : Or (List ℕ)) → Measured s n → WriteDone (written.Refused 33) s out out
-    go (is bytes) d =
-        let short = lt-leb (length bytes) (length out) (omega (arith, d .count)) in
-        record { answers = rw short; outs = rw short }
-    go (refused m) d = record { answers = cc; outs = refl }
-
-module _ {k : Kind} {w h : ℕ} {cells : List Float} {n : ℕ} {out out′ : List ℕ} {past : ℕ} where
-  pub done-wrote : SheetBytes k w h cells n → n ≤ length out → Wrote out 0 (headBytes k w h ++ listIn (cellsBytes k cells)) out′ past → WriteDone (written.Bytes past) (kindSheet k w h cells) out out′
-  done-wrote sheet b f =
-      let bytes = headBytes k w h ++ listIn (cellsBytes k cells) in
-      let fits : length bytes ≤ length out = omega (arith, length-append (headBytes k w h) (listIn (cellsBytes k cells))) in
-      let enough = le-leb (length bytes) (length out) fits in
-      rw (sheet .whole) (record { answers = rw (enough, f .place, zero-add); outs = rw enough (wrote-front fits f) })
+-- a sheet's bytes fit where their count does
+pub sheet-fits : {k : Kind} {w h : ℕ} {cells : List Float} {n m : ℕ} → SheetBytes k w h cells n → n ≤ m → length (headBytes k w h ++ listIn (cellsBytes k cells)) ≤ m
+sheet-fits {k} {w} {h} {cells} sheet b = omega (arith, sheet .size, length-append (headBytes k w h) (listIn (cellsBytes k cells)))

@@ -19,7 +19,7 @@ use Rattle.sheets.specs.declared.reading.FoundHead.{FoundHead}
 use Rattle.sheets.specs.declared.reading.FoundHead.the-variants as head
 use Rattle.sheets.specs.declared.reading.Checked.{Checked}
 use Rattle.sheets.specs.declared.reading.Checked.the-variants as checked
-use Rattle.sheets.specs.Steps.{Or, is, refused, andThen}
+use Rattle.lists.specs.Steps.{Or, is, refused, andThen}
 use Rattle.sheets.specs.Number.{Taken}
 use Rattle.sheets.specs.Sheet.{Head, TakenCell, takeHead, cellsAfterHead}
 
@@ -40,15 +40,6 @@ CodeSmall (code.Refused n) = Unit {0}
 abbrev pub storedAs : Or Float → Stored
 storedAs (is x) = stored.Cell x
 storedAs (refused n) = stored.Refused n
-
--- a list, empty where it is refused
-abbrev pub listIn : {A : Type 0} → Or (List A) → List A
-listIn (is list) = list
-listIn (refused n) = []
-
--- a list that is not refused
-abbrev pub Accepted : {A : Type 0} → Or (List A) → Type 0
-Accepted list = list ≡ is (listIn list)
 
 -- cells that were looked at
 abbrev pub checkedAs : Or (List Float) → Checked

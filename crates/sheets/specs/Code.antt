@@ -8,7 +8,7 @@ use lib.Ieee.Scale.{finite}
 use Rattle.sheets.specs.declared.code.Kind.{Kind}
 use Rattle.sheets.specs.declared.code.Kind.the-variants.{Whole, Exact}
 use Rattle.sheets.specs.Limits.{isWholeCell}
-use Rattle.sheets.specs.Steps.{Or, is, refused, given}
+use Rattle.lists.specs.Steps.{Or, is, refused, given}
 
 -- the number of a kind: 0 holds whole disparities, 1 any numbers
 abbrev pub kindNumber : Kind → ℕ

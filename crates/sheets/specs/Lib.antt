@@ -1,6 +1,5 @@
 -- The sheet of a map, as bytes, and what bytes say, in the order in which they are to be read.
 pub mod Limits
-pub mod Steps
 pub mod Number
 pub mod Code
 pub mod Sheet

@@ -3,7 +3,7 @@ use Prim.Native.Nat.{ℕ, zero, suc, _+_, _-_, _*_, _/_, _%_, _<_}
 use mathlib.Core.Bool.{cond}
 use mathlib.Core.List.{List, [], _∷_}
 use lib.Dec.{ltb}
-use Rattle.sheets.specs.Steps.{Or, is, refused}
+use Rattle.lists.specs.Steps.{Or, is, refused}
 
 -- a number's bytes where `more` groups may follow the first
 unfoldable pub groups : ℕ → ℕ → List ℕ

@@ -5,33 +5,12 @@ use mathlib.Core.List.{List, _++_}
 use lib.ListN.{length, drop}
 use lib.Dec.{leb, eqb}
 use lib.Ieee.{Float}
-use Rattle.sheets.specs.declared.writing.Written.{Written}
-use Rattle.sheets.specs.declared.writing.Written.the-variants as written
+use Rattle.lists.specs.declared.Written.{Written}
+use Rattle.lists.specs.declared.Written.the-variants as written
 use Rattle.sheets.specs.declared.reading.Said.{Said}
 use Rattle.sheets.specs.declared.reading.Said.the-variants as said
-use Rattle.sheets.specs.Steps.{Or, is, refused, andThen, given}
+use Rattle.lists.specs.Steps.{Or, is, refused, andThen, given}
 use Rattle.sheets.specs.Sheet.{Sheet}
-
--- ---- writing
-
--- 33 where the output of m bytes is too short
-abbrev pub roomFor : ℕ → Or (List ℕ) → Or (List ℕ)
-roomFor m sheet = andThen sheet (λ bytes. given (leb (length bytes) m) 33 bytes)
-
--- the answer: the byte count
-abbrev pub byteCount : Or (List ℕ) → Written
-byteCount (is bytes) = written.Bytes (length bytes)
-byteCount (refused n) = written.Refused n
-
--- the output afterwards: the bytes, and beyond them what was there
-abbrev pub outAfter : Or (List ℕ) → List ℕ → List ℕ
-outAfter (is bytes) out = bytes ++ drop (length bytes) out
-outAfter (refused n) out = out
-
--- what a call of `write_sheet` does, for a sheet or its refusal
-pub record WriteDone (answer : Written) (sheet : Or (List ℕ)) (out out′ : List ℕ) : Type 0 where
-  pub answers : answer ≡ byteCount (roomFor (length out) sheet)
-  pub outs : out′ ≡ outAfter (roomFor (length out) sheet) out
 
 -- ---- reading
 

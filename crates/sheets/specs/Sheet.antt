@@ -8,7 +8,7 @@ use lib.Ieee.{Float, binary32, fits}
 use Rattle.maps.specs.Map.{goodSize}
 use Rattle.sheets.specs.declared.code.Kind.{Kind}
 use Rattle.sheets.specs.Limits.{version, isSheetSide}
-use Rattle.sheets.specs.Steps.{Or, is, refused, andThen, given}
+use Rattle.lists.specs.Steps.{Or, is, refused, andThen, given}
 use Rattle.sheets.specs.Number.{Taken, numberBytes, takeNumber}
 use Rattle.sheets.specs.Code.{kindNumber, kindOf, codeOf, cellOf}
 

@@ -11,10 +11,10 @@ use crate::number::read_number;
 ghost use mathlib.Core.Path.{_≡_};
 ghost use Prim.Native.Nat.{_≤_};
 ghost use lib.ListN.{length, drop};
-ghost use Rattle.sheets.specs.Steps.{is};
+ghost use Rattle.lists.specs.Steps.{is, Accepted};
 ghost use Rattle.sheets.specs.Sheet.{takeVersion, takeSide, takeHead, takeCell, takeCells, readSheet};
 ghost use Rattle.sheets.specs.Outcome.{sizeSaid, ReadDone};
-ghost use Rattle.sheets.specs.Answers.{Accepted, checkedAs, checkedHead, FoundAs, CellAs, HeadAs};
+ghost use Rattle.sheets.specs.Answers.{checkedAs, checkedHead, FoundAs, CellAs, HeadAs};
 
 // What a sheet is: its kind, width and height, or the refusal.
 pub enum Said {

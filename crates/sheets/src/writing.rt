@@ -7,6 +7,7 @@ use crate::code::kind_of;
 use crate::limits::VERSION;
 use crate::number::number_length;
 use crate::number::put_number;
+use lists::Written;
 use maps::size_good;
 ghost use mathlib.Core.Path.{_≡_};
 ghost use mathlib.Core.Bool.{true};
@@ -16,14 +17,8 @@ ghost use Rattle.lists.specs.Stores.{Wrote};
 ghost use Rattle.options.specs.Limits.{sideMost};
 ghost use Rattle.maps.specs.Map.{goodSize};
 ghost use Rattle.sheets.specs.Sheet.{headBytes, cellsBytes, kindSheet, sheetOf};
-ghost use Rattle.sheets.specs.Outcome.{byteCount, WriteDone};
-ghost use Rattle.sheets.specs.Answers.{Accepted, listIn};
-
-// How many bytes a sheet takes or has taken, or the refusal.
-pub enum Written {
-    Bytes(usize),
-    Refused(u8),
-}
+ghost use Rattle.lists.specs.Writes.{byteCount, WriteDone};
+ghost use Rattle.lists.specs.Steps.{Accepted, listIn};
 
 // How many bytes the cells take.
 fn cells_length(kind: Kind, cells: &[f32]) -> Written
@@ -121,7 +116,7 @@ fn put_cells(kind: Kind, cells: &[f32], out: &mut [u8], at: usize) -> usize
 // Writes the sheet of a kind.
 fn write_kind(kind: Kind, cells: &[f32], width: usize, height: usize, out: &mut [u8]) -> Written
     requires { ⌜ goodSize width height (length (now cells)) ≡ true ⌝ }
-    ensures { λ r. ⌜ WriteDone r (kindSheet kind width height (now (cells .entry))) (now (out .entry)) (now (out .exit)) ⌝ }
+    ensures { λ r. ⌜ WriteDone 33 r (kindSheet kind width height (now (cells .entry))) (now (out .entry)) (now (out .exit)) ⌝ }
 {
     match kind_length(kind, cells, width, height) {
         Written::Bytes(n) => {
@@ -138,7 +133,7 @@ fn write_kind(kind: Kind, cells: &[f32], width: usize, height: usize, out: &mut 
 
 // Writes the sheet of a map of a kind at the front of `out`, and answers its byte count; bytes beyond it are left as they were.
 pub fn write_sheet(cells: &[f32], width: usize, height: usize, kind: u64, out: &mut [u8]) -> Written
-    ensures { λ r. ⌜ WriteDone r (sheetOf kind width height (now (cells .entry))) (now (out .entry)) (now (out .exit)) ⌝ }
+    ensures { λ r. ⌜ WriteDone 33 r (sheetOf kind width height (now (cells .entry))) (now (out .entry)) (now (out .exit)) ⌝ }
 {
     if size_good(width, height, cells.len()) {
         match kind_of(kind) {

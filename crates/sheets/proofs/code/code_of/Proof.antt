@@ -12,7 +12,7 @@ use lib.Ieee.Scale.{finite}
 use borrow.Author.Needs.{needs}
 use borrow.Author.Tests.{not-true, not-false}
 use Rattle.sheets.specs.declared.code.Kind.{Kind}
-use Rattle.sheets.specs.Steps.{Or, is, refused}
+use Rattle.lists.specs.Steps.{Or, is, refused}
 use Rattle.sheets.specs.Code.{codeOf}
 use Rattle.sheets.specs.Answers.{codeAs, CodeSmall}
 use Rattle.sheets.proofs.Codes.{finite-number, code-exact, code-small}

@@ -8,7 +8,7 @@ use lib.ListN.{length, length-append}
 use Rattle.lists.specs.Stores.{Wrote}
 use Rattle.lists.proofs.Stores.{wrote-then, wrote-length}
 use Rattle.sheets.specs.Number.{numberBytes}
-use Rattle.sheets.proofs.Stepwise.{not-accepted}
+use Rattle.lists.proofs.Stepwise.{not-accepted}
 use Rattle.sheets.proofs.Writings.{Passed, passed-none, passed-all, passed-fits, passed-more, passed-refused, code-number, code-refused, code-small}
 use Rattle.sheets.proofs.writing.put_cells.Statement.{statement}
 use Rattle.sheets.proofs.writing.put_cells.Tie as tie

@@ -3,7 +3,8 @@ use native.Mathlib.Omega.{arith}
 use borrow.Author.Needs.{needs}
 use Rattle.lists.proofs.Stores.{wrote-then}
 use Rattle.maps.proofs.Facts.{good}
-use Rattle.sheets.proofs.Writings.{measured, count-refused, sheet-counted, done-refused, done-short, done-wrote}
+use Rattle.lists.proofs.Writes.{measured, count-refused, done-refused, done-short, done-wrote}
+use Rattle.sheets.proofs.Writings.{sheet-counted, sheet-fits}
 use Rattle.sheets.proofs.writing.write_kind.Statement.{statement}
 use Rattle.sheets.proofs.writing.write_kind.Tie as tie
 
@@ -38,7 +39,7 @@ same-length c = search needs
 returns-2 : tie.Need-returns-2
 returns-2 c =
     let sheet = sheet-counted _ _ _ _ _ (c .before .before .before .before .before .before .before .before .before .before .before .before .kind-length .ensures) (c .before .before .before .before .before .before .before .before .before .before .n .given .1) in
-    done-wrote sheet (c .before .before .before .before .before .before .before .before .if1 .left) (wrote-then (c .before .before .before .before .before .before .put-head .ensures) (c .before .before .put-cells .ensures))
+    done-wrote (sheet .whole) (sheet-fits sheet (c .before .before .before .before .before .before .before .before .if1 .left)) (wrote-then (c .before .before .before .before .before .before .put-head .ensures) (c .before .before .put-cells .ensures))
 
 returns-3 : tie.Need-returns-3
 returns-3 c = done-refused _ (count-refused _ _ (c .before .before .before .kind-length .ensures) (c .before .n2 .given .1))

@@ -4,8 +4,7 @@ use mathlib.Core.Path.{_≡_, refl, sym, _∙_}
 use mathlib.Core.Bool.{Bool, true, false}
 use mathlib.Core.List.{List}
 use native.Mathlib.Omega.{arith}
-use Rattle.sheets.specs.Steps.{Or, is, refused, andThen, given}
-use Rattle.sheets.specs.Answers.{Accepted}
+use Rattle.lists.specs.Steps.{Or, is, refused, andThen, given, Accepted}
 
 -- a result is no refusal
 pub not-refused : {A B : Type 0} {a : A} {n : ℕ} → is a ≡ refused n → B

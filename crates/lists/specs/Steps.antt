@@ -1,6 +1,8 @@
 -- Steps one after another, each of which has a result or is refused. Definitions only.
 use Prim.Native.Nat.{ℕ}
+use mathlib.Core.Path.{_≡_}
 use mathlib.Core.Bool.{Bool, cond}
+use mathlib.Core.List.{List, []}
 
 -- a result, or the number of the refusal
 pub data Or (A : Type 0) : Type 0 where
@@ -15,3 +17,12 @@ andThen (refused n) next = refused n
 -- a result where the test holds, else the refusal n
 abbrev pub given : {A : Type 0} → Bool → ℕ → A → Or A
 given test n a = cond test (is a) (refused n)
+
+-- a list, empty where it is refused
+abbrev pub listIn : {A : Type 0} → Or (List A) → List A
+listIn (is list) = list
+listIn (refused n) = []
+
+-- a list that is not refused
+abbrev pub Accepted : {A : Type 0} → Or (List A) → Type 0
+Accepted list = list ≡ is (listIn list)

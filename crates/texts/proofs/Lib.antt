@@ -1,0 +1,3 @@
+-- The laws of digits.
+pub mod Digits
+pub mod Decimals
