@@ -29,3 +29,8 @@ then-is (refused n) next b e = not-refused (sym e)
 pub given-is : {A : Type 0} (test : Bool) (n : ℕ) (a b : A) → given test n a ≡ is b → (test ≡ true) × (a ≡ b)
 given-is true n a b e = (refl, same-result e)
 given-is false n a b e = not-refused (sym e)
+
+-- a test that held, and the next step
+pub given-then : {A B : Type 0} (test : Bool) (n : ℕ) (a : A) (next : A → Or B) (b : B) → andThen (given test n a) next ≡ is b → (test ≡ true) × (next a ≡ is b)
+given-then true n a next b e = (refl, e)
+given-then false n a next b e = not-refused (sym e)

@@ -6,12 +6,13 @@ use mathlib.Core.Bool.{Bool, true, false, not, cond, _&&_, false≢true}
 use lib.Dec.{T, leb, ltb, eqb, le→leb, leb→le, lt→ltb}
 use borrow.Author.Tests.{ltb-true, leb-true, eqb-true, eqb-false, lt-ltb}
 use lib.IntN.{ℤ, pos, negsuc, natAbs}
-use lib.Ieee.{Float, nan, inf, fin, binary32, up, down, odd, whole, inSigned, inFloat, toSigned, ofInt, fits, isNan, toBits, ofBits, ofFields}
+use lib.Ieee.{Float, nan, inf, fin, binary32, up, down, odd, whole, inSigned, inFloat, toSigned, ofInt, fits, toBits, ofBits}
 use lib.Ieee.Fits.{and-i, and-l, and-r, nan-fits, ofInt-fits}
 use lib.Ieee.Scale.{finite}
 use lib.Ieee.Back.{positive-back, negative-back, float-back-signed}
 use lib.Ieee.Bits.{is-true, ofBits-toBits, toBits-ofBits, toBits-lt, ofBits-fits}
 use Rattle.lists.proofs.Tests.{and-both}
+use Rattle.numbers.proofs.FinitePatterns.{finite-number}
 use Rattle.sheets.specs.declared.code.Kind.{Kind}
 use Rattle.sheets.specs.declared.code.Kind.the-variants.{Whole, Exact}
 use Rattle.sheets.specs.declared.code.Known.the-variants as known
@@ -129,34 +130,7 @@ code-unwhole (fin s m e) f w = rw w
 pub code-of-int : (z : ℤ) → isWholeCell z ≡ true → codeOf Whole (ofInt binary32 z) ≡ is (suc (folded z))
 code-of-int z w = code-whole (ofInt binary32 z) (int-whole z w) ∙ ap (λ (y : ℤ). is (suc (folded y))) (int-back z (few z w) .1)
 
--- ---- kind 1: a pattern is a finite float's where the exponent's field is not all ones
-
-odd-finite : (d : ℕ) (s : Bool) (q k l : ℕ) → finite (odd d s q k l) ≡ true
-unfolding odd
-odd-finite d s zero k l = refl
-odd-finite d s (suc q) k l = refl
-
-fields-finite : (s : Bool) (x t : ℕ) → finite (ofFields binary32 s x t) ≡ not (eqb x 255)
-unfolding ofFields
-fields-finite s zero t = odd-finite 24 s t 0 149
-fields-finite s (suc x) t = go (eqb (suc x) 255) (eqb t 0)
-  where
-    go : (a b : Bool) → finite (cond a (cond b (inf s) nan) (odd 24 s (2 ^ 23 + t) x 149)) ≡ not a
-    go true true = refl
-    go true false = refl
-    go false b = odd-finite 24 s (2 ^ 23 + t) x 149
-
-pub pattern-finite : (b : ℕ) → finite (ofBits binary32 b) ≡ not (eqb (b / 2 ^ 23 % 256) 255)
-unfolding ofBits
-pattern-finite b =
-    let field : b % 2 ^ 31 / 2 ^ 23 ≡ b / 2 ^ 23 % 256 = omega arith in
-    fields-finite (leb (2 ^ 31) b) (b % 2 ^ 31 / 2 ^ 23) (b % 2 ^ 23) ∙ ap (λ (x : ℕ). not (eqb x 255)) field
-
-pub finite-number : (x : Float) → finite x ≡ true → T (not (isNan x))
-unfolding isNan
-finite-number nan f = absurd (false≢true f)
-finite-number (inf s) f = tt
-finite-number (fin s m e) f = tt
+-- ---- kind 1
 
 pub code-exact : (x : Float) → finite x ≡ true → codeOf Exact x ≡ is (suc (toBits binary32 x))
 unfolding codeOf

@@ -6,21 +6,21 @@ use mathlib.Core.List.{List, [], _∷_, _++_, append-assoc}
 use native.Mathlib.Omega.{arith}
 use borrow.Author.Tests.{le-leb, eq-eqb, eqb-true}
 use lib.Dec.{leb, eqb}
-use lib.ListN.{length, take, drop}
-use lib.Seq.{take-at}
+use lib.ListN.{length, take}
 use lib.Ieee.{Float}
 use Rattle.lists.proofs.Tests.{and-both}
 use Rattle.maps.specs.Map.{goodSize}
 use Rattle.maps.proofs.Facts.{good}
+use Rattle.maps.specs.Cells.{AllFit}
 use Rattle.sheets.specs.declared.code.Kind.{Kind}
 use Rattle.lists.specs.declared.Written.the-variants as written
 use Rattle.sheets.specs.declared.reading.Said.{Said}
 use Rattle.sheets.specs.declared.reading.Said.the-variants as said
 use Rattle.sheets.specs.Limits.{version, sheetSideMost, isSheetSide}
-use Rattle.lists.specs.Steps.{Or, is, refused, andThen}
+use Rattle.lists.specs.Steps.{is, refused, andThen}
 use Rattle.sheets.specs.Number.{Taken, numberBytes, takeNumber, AllBytes}
 use Rattle.sheets.specs.Code.{kindNumber, kindOf, codeOf, cellOf}
-use Rattle.sheets.specs.Sheet.{Sheet, Head, headBytes, cellsBytes, kindSheet, sheetOf, takeVersion, takeSide, takeHead, TakenCell, takeCell, takeCells, cellsAfterHead, readSheet, AllFit}
+use Rattle.sheets.specs.Sheet.{Sheet, Head, headBytes, cellsBytes, kindSheet, sheetOf, takeVersion, takeSide, takeHead, TakenCell, takeCell, takeCells, cellsAfterHead, readSheet}
 use Rattle.lists.specs.Writes.{WriteDone}
 use Rattle.lists.proofs.Writes.{written-is}
 use Rattle.sheets.specs.Outcome.{ReadDone}

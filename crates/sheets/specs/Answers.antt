@@ -1,7 +1,7 @@
 -- The enums that the functions inside answer with, beside the definitions. Definitions only.
 use Prim.Native.Nat.{ℕ, _^_, _<_, _≤_}
 use mathlib.Core.Path.{_≡_}
-use mathlib.Core.List.{List, []}
+use mathlib.Core.List.{List}
 use lib.ListN.{length, drop}
 use lib.Ieee.{Float}
 use Rattle.sheets.specs.declared.number.Found.{Found}

@@ -1,12 +1,10 @@
 -- What the calls answer, and what they leave in what is lent. A refusal changes nothing. Definitions only.
 use Prim.Native.Nat.{ℕ, _*_}
 use mathlib.Core.Path.{_≡_}
-use mathlib.Core.List.{List, _++_}
-use lib.ListN.{length, drop}
-use lib.Dec.{leb, eqb}
+use mathlib.Core.List.{List}
+use lib.ListN.{length}
+use lib.Dec.{eqb}
 use lib.Ieee.{Float}
-use Rattle.lists.specs.declared.Written.{Written}
-use Rattle.lists.specs.declared.Written.the-variants as written
 use Rattle.sheets.specs.declared.reading.Said.{Said}
 use Rattle.sheets.specs.declared.reading.Said.the-variants as said
 use Rattle.lists.specs.Steps.{Or, is, refused, andThen, given}

@@ -3,8 +3,8 @@ use Prim.Native.Nat.{ℕ, zero, suc, _*_}
 use mathlib.Core.Bool.{cond}
 use mathlib.Core.List.{List, [], _∷_, _++_}
 use lib.ListN.{length}
-use lib.Dec.{T, eqb}
-use lib.Ieee.{Float, binary32, fits}
+use lib.Dec.{eqb}
+use lib.Ieee.{Float}
 use Rattle.maps.specs.Map.{goodSize}
 use Rattle.sheets.specs.declared.code.Kind.{Kind}
 use Rattle.sheets.specs.Limits.{version, isSheetSide}
@@ -91,8 +91,3 @@ cellsAfterHead head = takeCells (head .kind) (head .width * head .height) (head 
 -- what some bytes say
 unfoldable pub readSheet : List ℕ → Or Sheet
 readSheet s = andThen (takeHead s) (λ head. andThen (cellsAfterHead head) (λ cells. is (sheetWith head cells)))
-
--- every cell is an f32, as the cells of a lent slice are
-abbrev pub AllFit : List Float → Type 0
-AllFit [] = Unit {0}
-AllFit (x ∷ xs) = T (fits binary32 x) × AllFit xs

@@ -1,6 +1,6 @@
 -- Digits of a word, taken one byte at a time; digits that are written read as their number. Assumes nothing.
 use Prim.Native.Nat.{ℕ, zero, suc, _+_, _-_, _*_, _/_, _%_, _^_, _≤_, _<_}
-use mathlib.Core.Path.{_≡_, refl, sym, ap, _∙_}
+use mathlib.Core.Path.{_≡_, refl, _∙_}
 use mathlib.Core.Bool.{Bool, true, false, cond}
 use mathlib.Core.List.{List, [], _∷_, _++_}
 use native.Mathlib.Numerals.{add-one}
@@ -11,8 +11,8 @@ use lib.Seq.{drop-cons}
 use lib.Dec.{leb, ltb}
 use borrow.Author.Tests.{lt-ltb, le-leb, lt-leb, ltb-true, leb-true}
 use Rattle.lists.proofs.Tests.{and-both}
-use Rattle.texts.specs.Digits.{digits, digitByte, placesOf, decimalText, isDigit, allDigits, decimalFrom}
-use Rattle.texts.proofs.Digits.{length-digits, decimal-most}
+use Rattle.texts.specs.Digits.{digits, digitByte, placesOf, decimalText, isDigit, allDigits, decimalFrom, Numeral}
+use Rattle.texts.proofs.Digits.{length-digits}
 
 -- a byte below or above the digits spoils a word
 pub digits-low : (w : List ℕ) (i : ℕ) → i < length w → getD w i 0 < 48 → allDigits (drop i w) ≡ false
@@ -76,18 +76,11 @@ places-enough n h = go (ltb n 10) (ltb n 100) (ltb n 1000) refl refl refl
     go false false true p q r = (omega arith, omega (arith, ltb-true n 1000 r))
     go false false false p q r = (omega arith, omega arith)
 
--- a word of digits, with the number that it writes
-pub record Word (w : List ℕ) (n : ℕ) : Type 0 where
-  pub digit : allDigits w ≡ true
-  pub some : 1 ≤ length w
-  pub four : length w ≤ 4
-  pub is : decimalFrom 0 w ≡ n
-
-pub decimal-word : (n : ℕ) → n < 10000 → Word (decimalText n) n
+-- a number that is written is a numeral
+pub decimal-numeral : (n : ℕ) → n < 10000 → Numeral (decimalText n) n
 unfolding decimalText
-decimal-word n h = record {
+decimal-numeral n h = record {
   digit = digits-all (placesOf n) n;
   some = rw length-digits (places-enough n h .0);
-  four = decimal-most n;
-  is = digits-read (placesOf n) n (places-enough n h .1);
+  value = digits-read (placesOf n) n (places-enough n h .1);
 }

@@ -1,7 +1,9 @@
 -- Numbers as digits, written and read. Definitions only.
-use Prim.Native.Nat.{ℕ, zero, suc, _+_, _-_, _*_, _/_, _%_}
+use Prim.Native.Nat.{ℕ, zero, suc, _+_, _-_, _*_, _/_, _%_, _≤_}
+use mathlib.Core.Path.{_≡_}
 use mathlib.Core.Bool.{Bool, true, cond, _&&_}
 use mathlib.Core.List.{List, [], _∷_, _++_}
+use lib.ListN.{length}
 use lib.Dec.{leb, ltb}
 
 -- the byte of a digit below 16: 0 to 9, then A to F
@@ -34,3 +36,9 @@ allDigits (b ∷ w) = isDigit b && allDigits w
 abbrev pub decimalFrom : ℕ → List ℕ → ℕ
 decimalFrom n [] = n
 decimalFrom n (b ∷ w) = decimalFrom (n * 10 + (b - 48)) w
+
+-- a number in ASCII decimal: one digit or more, zeros in front too
+pub record Numeral (word : List ℕ) (n : ℕ) : Type 0 where
+  pub digit : allDigits word ≡ true
+  pub some : 1 ≤ length word
+  pub value : decimalFrom 0 word ≡ n

@@ -15,7 +15,8 @@ use Rattle.sheets.specs.declared.code.Kind.{Kind}
 use Rattle.lists.specs.Steps.{Or, is, refused}
 use Rattle.sheets.specs.Code.{codeOf}
 use Rattle.sheets.specs.Answers.{codeAs, CodeSmall}
-use Rattle.sheets.proofs.Codes.{finite-number, code-exact, code-small}
+use Rattle.numbers.proofs.FinitePatterns.{finite-number}
+use Rattle.sheets.proofs.Codes.{code-exact, code-small}
 use Rattle.sheets.proofs.code.code_of.Statement.{statement}
 use Rattle.sheets.proofs.code.code_of.Tie as tie
 

@@ -1,4 +1,4 @@
--- `sheets::code::exact_cell` meets its contract: proofs/Codes.antt says which patterns are finite. Assumes nothing.
+-- `sheets::code::exact_cell` meets its contract: numbers says which patterns are finite. Assumes nothing.
 use mathlib.Core.Path.{_≡_, ap, _∙_}
 use mathlib.Core.Bool.{true, not}
 use Prim.Native.Nat.{_/_, _%_, _^_}
@@ -9,7 +9,7 @@ use lib.Ieee.Scale.{finite}
 use borrow.Author.Needs.{needs}
 use borrow.Author.Tests.{eq-eqb, ne-eqb, lt-ltb, le-ltb}
 use Rattle.sheets.specs.Code.{cellOf}
-use Rattle.sheets.proofs.Codes.{pattern-finite, finite-number}
+use Rattle.numbers.proofs.FinitePatterns.{pattern-finite, finite-number}
 use Rattle.sheets.proofs.code.exact_cell.Statement.{statement}
 use Rattle.sheets.proofs.code.exact_cell.Tie as tie
 

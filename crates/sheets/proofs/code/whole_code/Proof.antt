@@ -22,7 +22,8 @@ use Rattle.sheets.specs.declared.code.Kind.the-variants.{Whole}
 use Rattle.sheets.specs.Limits.{wholeMost}
 use Rattle.lists.specs.Steps.{is, refused}
 use Rattle.sheets.specs.Code.{isWhole, codeOf}
-use Rattle.sheets.proofs.Codes.{whole-float, whole-in, code-unwhole, code-of-int, finite-number}
+use Rattle.numbers.proofs.FinitePatterns.{finite-number}
+use Rattle.sheets.proofs.Codes.{whole-float, whole-in, code-unwhole, code-of-int}
 use Rattle.sheets.proofs.code.whole_code.Statement.{statement}
 use Rattle.sheets.proofs.code.whole_code.Tie as tie
 
