@@ -11,7 +11,9 @@ use Rattle.points.specs.declared.PointRecord.{PointRecord}
 use Rattle.sheets.specs.declared.reading.Said.{Said}
 use Rattle.lists.specs.Steps.{Or}
 use Rattle.sheets.specs.Sheet.{Sheet}
-use Rattle.plombrisa.specs.Answers.{RangeTold, PointTold, PointsTold, WriteTold, SaidTold, ReadTold}
+use Rattle.netpbm.specs.declared.raster.Size.{Size}
+use Rattle.netpbm.specs.Raster.{Raster}
+use Rattle.plombrisa.specs.Answers.{RangeTold, PointTold, PointsTold, WriteTold, SaidTold, ReadTold, SizeTold, RasterTold}
 
 -- THEOREM: of a pixel, a reading between pixels, a number of valid cells and a cover figure: the answer and the lent number
 pub one-number : {A : Type 0} {number : ℕ} {value : A} {n m : ℕ} {v u : A} → (n ≡ number) × (v ≡ value) → (m ≡ number) × (u ≡ value) → (n ≡ m) × (v ≡ u)
@@ -48,3 +50,13 @@ pub one-read : {sheet : Or Sheet} {out : List Float} {kind width height n m : �
     → ReadTold n sheet out out₁ kind kind₁ width width₁ height height₁ → ReadTold m sheet out out₂ kind kind₂ width width₂ height height₂
     → ((n ≡ m) × (kind₁ ≡ kind₂) × (width₁ ≡ width₂) × (height₁ ≡ height₂)) × (out₁ ≡ out₂)
 one-read x y = (one-said (x .told) (y .told), x .outs ∙ sym (y .outs))
+
+-- THEOREM: of the size of a picture or of a map, and of its cells
+pub one-size : {s : Size} {width height n m width₁ width₂ height₁ height₂ : ℕ}
+    → SizeTold n s width width₁ height height₁ → SizeTold m s width width₂ height height₂ → (n ≡ m) × (width₁ ≡ width₂) × (height₁ ≡ height₂)
+one-size x y = (x .answer ∙ sym (y .answer), x .widths ∙ sym (y .widths), x .heights ∙ sym (y .heights))
+
+pub one-raster : {A : Type 0} {raster : Or (Raster A)} {out : List A} {width height n m : ℕ} {out₁ out₂ : List A} {width₁ width₂ height₁ height₂ : ℕ}
+    → RasterTold n raster out out₁ width width₁ height height₁ → RasterTold m raster out out₂ width width₂ height height₂
+    → ((n ≡ m) × (width₁ ≡ width₂) × (height₁ ≡ height₂)) × (out₁ ≡ out₂)
+one-raster x y = (one-size (x .told) (y .told), x .outs ∙ sym (y .outs))

@@ -25,6 +25,10 @@ use Rattle.lists.specs.declared.Written.the-variants as written
 use Rattle.sheets.specs.declared.reading.Said.{Said}
 use Rattle.sheets.specs.declared.reading.Said.the-variants as said
 use Rattle.lists.specs.Steps.{Or}
+use Rattle.netpbm.specs.declared.raster.Size.{Size}
+use Rattle.netpbm.specs.declared.raster.Size.the-variants as size
+use Rattle.netpbm.specs.Raster.{Raster}
+use Rattle.netpbm.specs.Outcome as netpbm
 use Rattle.sheets.specs.Code.{kindNumber}
 use Rattle.sheets.specs.Sheet.{Sheet}
 use Rattle.lists.specs.Writes.{roomFor, byteCount, outAfter}
@@ -161,3 +165,25 @@ pub record SaidTold (n : ℕ) (s : Said) (kind kind′ width width′ height hei
 pub record ReadTold (n : ℕ) (sheet : Or Sheet) (out out′ : List Float) (kind kind′ width width′ height height′ : ℕ) : Type 0 where
   pub told : SaidTold n (sizeSaid (cellsFor (length out) sheet)) kind kind′ width width′ height height′
   pub outs : out′ ≡ cellsAfter (cellsFor (length out) sheet) out
+
+-- of a picture or a map that is read: width and height
+abbrev pub sizeRefusal : Size → ℕ
+sizeRefusal (size.Is w h) = 0
+sizeRefusal (size.Refused n) = n
+
+abbrev pub wideAfter : Size → ℕ → ℕ
+wideAfter (size.Is w h) was = w
+wideAfter (size.Refused n) was = was
+
+abbrev pub highAfter : Size → ℕ → ℕ
+highAfter (size.Is w h) was = h
+highAfter (size.Refused n) was = was
+
+pub record SizeTold (n : ℕ) (s : Size) (width width′ height height′ : ℕ) : Type 0 where
+  pub answer : n ≡ sizeRefusal s
+  pub widths : width′ ≡ wideAfter s width
+  pub heights : height′ ≡ highAfter s height
+
+pub record RasterTold {A : Type 0} (n : ℕ) (raster : Or (Raster A)) (out out′ : List A) (width width′ height height′ : ℕ) : Type 0 where
+  pub told : SizeTold n (netpbm.sizeOf (netpbm.cellsFor (length out) raster)) width width′ height height′
+  pub outs : out′ ≡ netpbm.cellsAfter (netpbm.cellsFor (length out) raster) out

@@ -1,9 +1,11 @@
 // The functions for C and Rust hosts. A slice is its pointer and then its length. Names and order are fixed: nothing checks
 // the declaration on the other side.
+pub mod file;
 pub mod map;
 pub mod picture;
 pub mod point;
 pub mod sheet;
+pub mod told;
 
 ghost use mathlib.Core.Path.{_≡_};
 ghost use lib.ListN.{length};

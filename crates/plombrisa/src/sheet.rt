@@ -5,25 +5,12 @@ ghost use Rattle.sheets.specs.Sheet.{sheetOf, readSheet};
 ghost use Rattle.lists.specs.Writes.{byteCount};
 ghost use Rattle.sheets.specs.Outcome.{sizeSaid};
 ghost use Rattle.plombrisa.specs.Answers.{writtenRefusal, writtenAfter, WriteTold, SaidTold, ReadTold};
+use crate::told::tell_bytes;
 use sheets::reading::Said;
 use sheets::reading::read_sheet;
 use sheets::reading::sheet_size;
-use lists::Written;
 use sheets::writing::sheet_length;
 use sheets::writing::write_sheet;
-
-// What an answer says, with its byte count in the lent number.
-fn tell_bytes(answer: Written, count: &mut u64) -> u32
-    ensures { λ n. ⌜ (n ≡ writtenRefusal answer) × (now (count .exit) ≡ writtenAfter answer (now (count .entry))) ⌝ }
-{
-    match answer {
-        Written::Refused(n) => n as u32,
-        Written::Bytes(v) => {
-            *count = v as u64;
-            0
-        }
-    }
-}
 
 // How many bytes the sheet of a map takes.
 #[no_mangle]

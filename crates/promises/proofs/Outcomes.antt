@@ -36,6 +36,10 @@ use Rattle.sheets.specs.declared.reading.Said.{Said}
 use Rattle.sheets.specs.Sheet.{sheetOf, readSheet}
 use Rattle.lists.specs.Writes.{byteCount, WriteDone}
 use Rattle.sheets.specs.Outcome.{sizeSaid, ReadDone}
+use Rattle.netpbm.specs.declared.raster.Size.{Size}
+use Rattle.netpbm.specs.Pgm.{readPgm}
+use Rattle.netpbm.specs.Pfm.{pfmOf, readPfm}
+use Rattle.netpbm.specs.Outcome as netpbm
 
 -- two answers that are both what a definition says
 both : {A : Type 0} {d r r′ : A} → r ≡ d → r′ ≡ d → r ≡ r′
@@ -131,3 +135,27 @@ sheet-size s r r′ = both
 pub read-sheet : (s : List ℕ) (out : List Float) (r r′ : Said) (out₁ out₂ : List Float)
     → ReadDone r (readSheet s) out out₁ → ReadDone r′ (readSheet s) out out₂ → (r ≡ r′) × (out₁ ≡ out₂)
 read-sheet s out r r′ out₁ out₂ e e′ = (both (e .answers) (e′ .answers), both (e .outs) (e′ .outs))
+
+-- a PGM picture: its size, and read, with the output afterwards
+pub pgm-size : (s : List ℕ) (r r′ : Size) → r ≡ netpbm.sizeOf (readPgm s) → r′ ≡ netpbm.sizeOf (readPgm s) → r ≡ r′
+pgm-size s r r′ = both
+
+pub read-pgm : (s : List ℕ) (out : List ℕ) (r r′ : Size) (out₁ out₂ : List ℕ)
+    → netpbm.ReadDone r (readPgm s) out out₁ → netpbm.ReadDone r′ (readPgm s) out out₂ → (r ≡ r′) × (out₁ ≡ out₂)
+read-pgm s out r r′ out₁ out₂ e e′ = (both (e .answers) (e′ .answers), both (e .outs) (e′ .outs))
+
+-- a map's PFM file: how long it is, and written, with the output afterwards
+pub pfm-length : (w h : ℕ) (cells : List Float) (r r′ : Written) → r ≡ byteCount (pfmOf w h cells) → r′ ≡ byteCount (pfmOf w h cells) → r ≡ r′
+pfm-length w h cells r r′ = both
+
+pub write-pfm : (w h : ℕ) (cells : List Float) (out : List ℕ) (r r′ : Written) (out₁ out₂ : List ℕ)
+    → WriteDone 45 r (pfmOf w h cells) out out₁ → WriteDone 45 r′ (pfmOf w h cells) out out₂ → (r ≡ r′) × (out₁ ≡ out₂)
+write-pfm w h cells out r r′ out₁ out₂ e e′ = (both (e .answers) (e′ .answers), both (e .outs) (e′ .outs))
+
+-- a PFM map: its size, and read, with the output afterwards
+pub pfm-size : (s : List ℕ) (r r′ : Size) → r ≡ netpbm.sizeOf (readPfm s) → r′ ≡ netpbm.sizeOf (readPfm s) → r ≡ r′
+pfm-size s r r′ = both
+
+pub read-pfm : (s : List ℕ) (out : List Float) (r r′ : Size) (out₁ out₂ : List Float)
+    → netpbm.ReadDone r (readPfm s) out out₁ → netpbm.ReadDone r′ (readPfm s) out out₂ → (r ≡ r′) × (out₁ ≡ out₂)
+read-pfm s out r r′ out₁ out₂ e e′ = (both (e .answers) (e′ .answers), both (e .outs) (e′ .outs))

@@ -3,3 +3,4 @@ pub mod Changes
 pub mod Demand
 pub mod Answered
 pub mod Witnesses
+pub mod FileWitnesses

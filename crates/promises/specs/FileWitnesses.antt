@@ -1,0 +1,56 @@
+-- A file for each number that can be answered of PGM pictures and PFM maps. Definitions only.
+use Prim.Native.Nat.{ℕ}
+use mathlib.Core.Path.{_≡_}
+use mathlib.Core.Bool.{false}
+use mathlib.Core.List.{List, [], _∷_, _++_}
+use lib.IntN.{pos}
+use lib.Ieee.{Float, fin}
+use Rattle.lists.specs.Steps.{is, refused}
+use Rattle.lists.specs.Writes.{roomFor}
+use Rattle.netpbm.specs.Outcome.{cellsFor}
+use Rattle.netpbm.specs.Pgm.{readPgm}
+use Rattle.netpbm.specs.Pfm.{pfmOf, readPfm}
+
+abbrev one : Float
+one = fin false 1 (pos 0)
+
+-- `P5`, a comment `#c`, a width of one digit, 1 and a maximum of three digits, with LF between them and after them
+abbrev pub pgmHeader : ℕ → ℕ → ℕ → ℕ → List ℕ
+pgmHeader w a b c = 80 ∷ 53 ∷ 10 ∷ 35 ∷ 99 ∷ 10 ∷ w ∷ 10 ∷ 49 ∷ 10 ∷ a ∷ b ∷ c ∷ 10 ∷ []
+
+-- width 1, height 1, maximum 255
+abbrev pub pgmOne : List ℕ
+pgmOne = pgmHeader 49 50 53 53
+
+-- `Pf`, a width of one digit and 1, and `-1.0` with another last digit
+abbrev pub pfmHeader : ℕ → ℕ → ℕ → List ℕ
+pfmHeader w whole fraction = 80 ∷ 102 ∷ 10 ∷ w ∷ 32 ∷ 49 ∷ 10 ∷ 45 ∷ whole ∷ 46 ∷ fraction ∷ 10 ∷ []
+
+-- the file of the map of one cell, 1
+abbrev pub oneMap : List ℕ
+oneMap = pfmHeader 49 49 48 ++ (0 ∷ 0 ∷ 128 ∷ 63 ∷ [])
+
+pub record FilesReached : Type 0 where
+  -- a picture of one level: another magic number, a comment that does not end, a comment after the maximum, a maximum of 254, a width of
+  -- 0, a level cut, one left over, and an output of two cells
+  pub pgm-41 : readPgm (80 ∷ 54 ∷ 10 ∷ []) ≡ refused 41
+  pub pgm-41-comment : readPgm (80 ∷ 53 ∷ 35 ∷ 49 ∷ 32 ∷ 49 ∷ 32 ∷ []) ≡ refused 41
+  pub pgm-41-late : readPgm (80 ∷ 53 ∷ 32 ∷ 49 ∷ 32 ∷ 49 ∷ 32 ∷ 50 ∷ 53 ∷ 53 ∷ 35 ∷ 10 ∷ 7 ∷ []) ≡ refused 41
+  pub pgm-42 : readPgm (pgmHeader 48 50 53 52 ++ (7 ∷ [])) ≡ refused 42
+  pub pgm-43 : readPgm (pgmHeader 48 50 53 53) ≡ refused 43
+  pub pgm-44 : readPgm pgmOne ≡ refused 44
+  pub pgm-44-over : readPgm (pgmOne ++ (7 ∷ 7 ∷ [])) ≡ refused 44
+  pub pgm-45 : cellsFor 2 (readPgm (pgmOne ++ (7 ∷ []))) ≡ refused 45
+  pub pgm-is : cellsFor 1 (readPgm (pgmOne ++ (7 ∷ []))) ≡ is (record { width = 1; height = 1; cells = 7 ∷ [] })
+  -- the map of one cell: a cell too many, and an output of 15 bytes
+  pub write-23 : pfmOf 1 1 (one ∷ one ∷ []) ≡ refused 23
+  pub write-45 : roomFor 45 15 (pfmOf 1 1 (one ∷ [])) ≡ refused 45
+  pub write-is : roomFor 45 16 (pfmOf 1 1 (one ∷ [])) ≡ is oneMap
+  -- a map of one cell: another first line, a scale of zeros, a width of 0, a cell cut, a byte left over, and an output of two cells
+  pub pfm-41 : readPfm (80 ∷ 70 ∷ 10 ∷ []) ≡ refused 41
+  pub pfm-41-scale : readPfm (pfmHeader 49 48 48 ++ (0 ∷ 0 ∷ 128 ∷ 63 ∷ [])) ≡ refused 41
+  pub pfm-43 : readPfm (pfmHeader 48 49 48) ≡ refused 43
+  pub pfm-44 : readPfm (pfmHeader 49 49 48 ++ (0 ∷ 0 ∷ 128 ∷ [])) ≡ refused 44
+  pub pfm-44-over : readPfm (oneMap ++ (0 ∷ [])) ≡ refused 44
+  pub pfm-45 : cellsFor 2 (readPfm oneMap) ≡ refused 45
+  pub pfm-is : cellsFor 1 (readPfm oneMap) ≡ is (record { width = 1; height = 1; cells = one ∷ [] })
