@@ -3,9 +3,11 @@
 //! `bench [REPEATS]` prints a table: seconds (the best of the repeats), their ratio, and the most memory that each held at once.
 //! `bench parts [REPEATS]` prints what the parts of one map of 640x480x64 take.
 //! `bench sheets [REPEATS]` prints what a sheet of the block map of 640x480x64 takes, in either kind.
+//! `bench netpbm [REPEATS]` prints what the PGM file of a picture of 640x480 and the PFM file of that map take.
 //! `bench once library|rust|nothing block|semi-global` makes one map of 640x480x64, or only what both are made from, and prints
 //! nothing, so that a counter of instructions has one thing to count.
 mod memory;
+mod netpbm;
 mod sheets;
 
 use memory::peak_of;
@@ -135,13 +137,24 @@ fn parts(repeats: usize) {
     }
 }
 
+/// A pair of 640x480 and the cells of its block map.
+fn pair_and_map() -> (Pair, Vec<f32>) {
+    let pair = pair(640, 480);
+    let picture = |bytes| Picture { bytes, width: pair.width, height: pair.height };
+    let cells = match_block(picture(&pair.left), picture(&pair.right), &Options::default()).expect("accepted");
+    (pair, cells)
+}
+
 /// The sheets of a block map of 640x480x64.
 fn sheets_of_a_map(repeats: usize) {
-    let (w, h) = (640, 480);
-    let pair = pair(w, h);
-    let picture = |bytes| Picture { bytes, width: w, height: h };
-    let cells = match_block(picture(&pair.left), picture(&pair.right), &Options::default()).expect("accepted");
-    sheets::table(Map { cells: &cells, width: w, height: h }, repeats);
+    let (pair, cells) = pair_and_map();
+    sheets::table(Map { cells: &cells, width: pair.width, height: pair.height }, repeats);
+}
+
+/// The PGM file of a picture of 640x480 and the PFM file of its block map.
+fn files_of_a_map(repeats: usize) {
+    let (pair, cells) = pair_and_map();
+    netpbm::table(&pair.left, Map { cells: &cells, width: pair.width, height: pair.height }, repeats);
 }
 
 /// One map of 640x480x64 by one of the two, or by neither.
@@ -179,6 +192,9 @@ fn main() {
     }
     if let Some(repeats) = repeats_after("sheets") {
         return sheets_of_a_map(repeats);
+    }
+    if let Some(repeats) = repeats_after("netpbm") {
+        return files_of_a_map(repeats);
     }
     let repeats = words.first().map_or(3, |n| n.parse().expect("REPEATS is a whole number"));
     println!("block 7, left-right on, best of {repeats}; every map was compared cell by cell");

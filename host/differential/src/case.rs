@@ -1,5 +1,5 @@
 //! One call: two pictures, options, and what is lent.
-use crate::rng::Rng;
+use runs::rng::Rng;
 use plombrisa::{Options, float_cells, whole_cells};
 
 #[derive(Debug, Clone)]

@@ -7,12 +7,11 @@ mod maps;
 mod numbers;
 mod pictures;
 mod points;
-mod rng;
 mod shrink;
 
 use case::Case;
 use plombrisa::Options;
-use rng::Rng;
+use runs::rng::Rng;
 use std::fmt::Debug;
 use std::process::exit;
 use std::time::{Duration, Instant};

@@ -1,6 +1,6 @@
 //! A map's figures on both sides: valid cells, cover, least and greatest.
 use crate::numbers::{narrow, size, unfit_side};
-use crate::rng::Rng;
+use runs::rng::Rng;
 use oracle::dense::DisparityMap;
 use plombrisa::{Map, cover, cover_in, valid_count, valid_count_in, valid_range, valid_range_in};
 

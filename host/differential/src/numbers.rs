@@ -1,5 +1,5 @@
 //! Numbers of every kind, for the calls that take any.
-use crate::rng::Rng;
+use runs::rng::Rng;
 
 /// Any f64: any bits, one at a boundary, one of any magnitude, or a plain one.
 pub fn wide(rng: &mut Rng) -> f64 {

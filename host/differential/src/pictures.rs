@@ -1,6 +1,6 @@
 //! One picture read at a pixel and between pixels, on both sides.
 use crate::numbers::{beside, size, unfit_side, wide};
-use crate::rng::Rng;
+use runs::rng::Rng;
 use oracle::dense::GrayImage;
 use plombrisa::{Picture, bilinear, bilinear_in, pixel, pixel_in};
 

@@ -1,7 +1,7 @@
 //! The point formula and the list of a map's points, on both sides.
 use crate::maps::{Cells, map};
 use crate::numbers::{beside, same, wide};
-use crate::rng::Rng;
+use runs::rng::Rng;
 use oracle::rectification::{FxFyCxCy, StereoRectification};
 use plombrisa::{Intrinsics, PointRecord, points, points_in, rectified_point, rectified_point_in};
 

@@ -1,30 +1,22 @@
 //! Makes a pair of pictures of a heap, matches it in both modes, and draws the left picture and the two maps side by side.
 //!
 //! `heap FILE` writes the drawing as a PNG.
-mod png;
-mod scene;
-
+//! `heap pair LEFT RIGHT` writes the pair as two PGM files, which are the tool's example.
+use heap::colours::{grey, of_cell};
+use heap::png;
+use heap::scene::Scene;
 use plombrisa::{Options, Picture, match_block};
-use scene::Scene;
 
-/// A map cell as a colour index: 0 for a hole, else 1 (far) to 255 (near).
-fn shade(disparity: f32, first: f32, count: f32) -> u8 {
-    if disparity.is_nan() { 0 } else { (1.0 + 254.0 * (disparity - first) / count).clamp(1.0, 255.0) as u8 }
+/// The pair as two PGM files.
+fn write_pair(left: &str, right: &str) {
+    for (file, bytes) in [left, right].iter().zip(Scene::example().pgm_files()) {
+        std::fs::write(file, bytes).expect("the file can be written");
+    }
 }
 
-/// Dark blue for far to bright yellow for near, and red for a hole.
-fn colour(index: u8) -> [u8; 3] {
-    let t = index as f32 / 255.0;
-    if index == 0 { [200, 30, 30] } else { [(40.0 + 210.0 * t) as u8, (50.0 + 180.0 * t) as u8, (150.0 - 110.0 * t) as u8] }
-}
-
-fn grey(level: u8) -> [u8; 3] {
-    [level; 3]
-}
-
-fn main() {
-    let file = std::env::args().nth(1).expect("heap FILE");
-    let scene = Scene::new(200, 150);
+/// The drawing.
+fn draw(file: &str) {
+    let scene = Scene::example();
     let (w, h) = (scene.width, scene.height);
     let picture = |bytes| Picture { bytes, width: w, height: h };
     let (left, right) = (picture(scene.left.as_slice()), picture(scene.right.as_slice()));
@@ -44,10 +36,19 @@ fn main() {
         for x in 0..w {
             rows[y][x] = grey(scene.left[y * w + x]);
             for (i, map) in maps.iter().enumerate() {
-                rows[y][(i + 1) * (w + gap) + x] = colour(shade(map[y * w + x], 0.0, 24.0));
+                rows[y][(i + 1) * (w + gap) + x] = of_cell(map[y * w + x], 0.0, 24.0);
             }
         }
     }
-    std::fs::write(&file, png::encode(&rows)).expect("the file can be written");
+    std::fs::write(file, png::encode(&rows)).expect("the file can be written");
     println!("{file}: the left picture, the block map and the semi-global map; holes are red");
+}
+
+fn main() {
+    let words: Vec<String> = std::env::args().skip(1).collect();
+    match words.as_slice() {
+        [word, left, right] if word == "pair" => write_pair(left, right),
+        [file] => draw(file),
+        _ => panic!("heap FILE, or heap pair LEFT RIGHT"),
+    }
 }

@@ -46,4 +46,15 @@ impl Scene {
         }
         Self { width, height, left, right }
     }
+
+    /// The scene that the README shows and that the tool's example is of.
+    pub fn example() -> Self {
+        Self::new(200, 150)
+    }
+
+    /// The left and the right picture as PGM files.
+    pub fn pgm_files(&self) -> [Vec<u8>; 2] {
+        let header = format!("P5\n{} {}\n255\n", self.width, self.height);
+        [&self.left, &self.right].map(|levels| [header.as_bytes(), levels].concat())
+    }
 }

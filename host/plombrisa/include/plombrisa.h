@@ -73,4 +73,22 @@ uint32_t plombrisa_sheet_size(
 uint32_t plombrisa_read_sheet(
     const uint8_t *sheet, size_t sheet_len, float *out, size_t out_len, uint64_t *kind, uint64_t *width, uint64_t *height);
 
+/* A PGM file (Netpbm's P5 with a maximum of 255): its size, and with the second its levels too, the top row first, into w*h bytes.
+ * Both judge every byte; only the length of out is left to the second. */
+uint32_t plombrisa_pgm_size(const uint8_t *file, size_t file_len, uint64_t *width, uint64_t *height);
+uint32_t plombrisa_read_pgm(
+    const uint8_t *file, size_t file_len, uint8_t *out, size_t out_len, uint64_t *width, uint64_t *height);
+
+/* A map as a PFM file, little-endian, a NaN as plus infinity. The first answers how many bytes the file takes; the second writes
+ * them, with their number in count, and leaves those beyond as they were. */
+uint32_t plombrisa_pfm_length(const float *cells, size_t cells_len, size_t width, size_t height, uint64_t *count);
+uint32_t plombrisa_write_pfm(
+    const float *cells, size_t cells_len, size_t width, size_t height, uint8_t *out, size_t out_len, uint64_t *count);
+
+/* The size of a PFM file of either byte order, and with the second its map too, the top row first, a NaN for each cell that is not
+ * finite, into w*h cells. Both judge every byte; only the length of out is left to the second. */
+uint32_t plombrisa_pfm_size(const uint8_t *file, size_t file_len, uint64_t *width, uint64_t *height);
+uint32_t plombrisa_read_pfm(
+    const uint8_t *file, size_t file_len, float *out, size_t out_len, uint64_t *width, uint64_t *height);
+
 #endif

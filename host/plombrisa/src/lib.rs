@@ -1,12 +1,17 @@
 //! Plombrisa from Rust: safe functions over the exports of the proved library. Names and order of the exports are fixed in
-//! crates/plombrisa/src; nothing checks these declarations against them but the differential runs and the sheets' run.
+//! crates/plombrisa/src; nothing checks these declarations against them but the differential runs, the sheets' run and Netpbm's.
 
 mod maps;
+mod netpbm;
 mod pictures;
 mod points;
 mod sheets;
 
 pub use maps::{Map, cover, cover_in, valid_count, valid_count_in, valid_range, valid_range_in};
+pub use netpbm::{
+    OwnedMap, OwnedPicture, pfm_length_in, pfm_size_in, pgm_size_in, read_pfm, read_pfm_in, read_pgm, read_pgm_in, write_pfm,
+    write_pfm_in,
+};
 pub use pictures::{bilinear, bilinear_in, pixel, pixel_in};
 pub use points::{Intrinsics, PointRecord, points, points_in, rectified_point, rectified_point_in};
 pub use sheets::{Kind, Sheet, read_sheet, read_sheet_in, sheet_length_in, sheet_size_in, write_sheet, write_sheet_in};
@@ -81,6 +86,27 @@ mod raw {
             sheet: *const u8, sheet_len: usize, out: *mut f32, out_len: usize,
             kind: *mut u64, width: *mut u64, height: *mut u64,
         ) -> u32;
+
+        pub fn plombrisa_pgm_size(file: *const u8, file_len: usize, width: *mut u64, height: *mut u64) -> u32;
+
+        pub fn plombrisa_read_pgm(
+            file: *const u8, file_len: usize, out: *mut u8, out_len: usize, width: *mut u64, height: *mut u64,
+        ) -> u32;
+
+        pub fn plombrisa_pfm_length(
+            cells: *const f32, cells_len: usize, width: usize, height: usize, count: *mut u64,
+        ) -> u32;
+
+        pub fn plombrisa_write_pfm(
+            cells: *const f32, cells_len: usize, width: usize, height: usize,
+            out: *mut u8, out_len: usize, count: *mut u64,
+        ) -> u32;
+
+        pub fn plombrisa_pfm_size(file: *const u8, file_len: usize, width: *mut u64, height: *mut u64) -> u32;
+
+        pub fn plombrisa_read_pfm(
+            file: *const u8, file_len: usize, out: *mut f32, out_len: usize, width: *mut u64, height: *mut u64,
+        ) -> u32;
     }
 }
 
@@ -126,7 +152,8 @@ impl Default for Options {
     }
 }
 
-/// Why a call was refused: the rows of the table of document 01, and from 31 those that sheets added, each with its number.
+/// Why a call was refused: the rows of the table of document 01, and from 31 those that sheets and from 41 those that PGM and PFM
+/// files added, each with its number.
 #[derive(Debug, Clone, Copy, PartialEq, Eq)]
 #[repr(u32)]
 pub enum Refusal {
@@ -156,6 +183,11 @@ pub enum Refusal {
     SheetSize = 36,
     CellNumber = 37,
     BytesLeftOver = 38,
+    FileHeader = 41,
+    FileMaximum = 42,
+    FileSize = 43,
+    FileData = 44,
+    FileOutput = 45,
 }
 
 impl Refusal {
@@ -171,10 +203,57 @@ impl Refusal {
             PictureSmallerThanBlock, FirstOutOfRange, PenaltyOutOfRange, OutputLength, RoomTooShort,
             CameraOutOfRange, BaselineOutOfRange, MapSize, ListTooShort, CoordinateNan, PixelOutside,
             CellInfinite, CellNotWhole, OutputTooShort, NumberUnfit, VersionOrKindUnknown, SheetSize, CellNumber, BytesLeftOver,
+            FileHeader, FileMaximum, FileSize, FileData, FileOutput,
         ];
         all.into_iter().find(|refusal| refusal.number() == number)
     }
+
+    /// The reason in words, for a person who is told the number.
+    pub fn reason(self) -> &'static str {
+        use Refusal::*;
+        match self {
+            SizeOutOfRange => "a picture's width or height is outside 1 to 2,048",
+            ByteCount => "a picture's byte count is not its width times its height",
+            SizesDiffer => "the two pictures are not of one size",
+            BlockEven => "the block's side is zero or even",
+            BlockTooLarge => "the block's side is over 31",
+            CountNotPositive => "the number of disparities is zero or negative",
+            CountTooLarge => "the number of disparities is over 256",
+            PictureSmallerThanBlock => "the pictures are narrower or lower than the block",
+            FirstOutOfRange => "the first disparity is outside -4,096 to 4,096",
+            PenaltyOutOfRange => "a penalty is not finite or outside 0 to 1,024",
+            OutputLength => "the output's length does not fit",
+            RoomTooShort => "a room is too short",
+            CameraOutOfRange => "fx or fy is not finite and positive, or cx or cy is not finite",
+            BaselineOutOfRange => "the baseline is not finite or not over 1e-12",
+            MapSize => "the map's width or height is outside 1 to 2,048, or its length does not fit them",
+            ListTooShort => "the list is shorter than the points to write",
+            CoordinateNan => "a coordinate is NaN",
+            PixelOutside => "the pixel is outside the picture or the map",
+            CellInfinite => "a cell is infinite",
+            CellNotWhole => "a cell is minus zero, a fraction, or outside -8,192 to 8,192",
+            OutputTooShort => "the output is too short for the sheet",
+            NumberUnfit => "a number of the sheet is cut, not in its shortest form, or has more than five groups",
+            VersionOrKindUnknown => "the sheet's version or kind is unknown",
+            SheetSize => "the sheet's width or height is outside 1 to 2,048",
+            CellNumber => "the sheet has a number that no cell has",
+            BytesLeftOver => "the sheet has bytes left over",
+            FileHeader => "the file's header is not one of its format",
+            FileMaximum => "the file's maximum is not 255",
+            FileSize => "the file's width or height is outside 1 to 2,048",
+            FileData => "the file's data are cut, or bytes are left over",
+            FileOutput => "the output's length does not fit the file",
+        }
+    }
 }
+
+impl std::fmt::Display for Refusal {
+    fn fmt(&self, f: &mut std::fmt::Formatter) -> std::fmt::Result {
+        f.write_str(self.reason())
+    }
+}
+
+impl std::error::Error for Refusal {}
 
 fn answer(number: u32) -> Result<(), Refusal> {
     match number {

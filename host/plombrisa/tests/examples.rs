@@ -1,4 +1,5 @@
 //! The examples of the README: the text there is the text compiled here. The two matches answer the worked example of document 01.
+use runs::program::program_at;
 use std::fs::read_to_string;
 use std::path::{Path, PathBuf};
 use std::process::Command;
@@ -17,7 +18,7 @@ fn printed(command: &mut Command) -> String {
 #[test]
 fn the_readme_shows_them() {
     let readme = read_to_string(repository().join("README.md")).expect("README.md");
-    for name in ["match.c", "match.rs", "sheet.rs"] {
+    for name in ["match.c", "match.rs", "sheet.rs", "netpbm.rs"] {
         let text = read_to_string(repository().join("host/plombrisa/examples").join(name)).expect(name);
         assert!(readme.contains(&text), "README.md does not show {name} as it is");
     }
@@ -26,18 +27,6 @@ fn the_readme_shows_them() {
 /// The C compiler for the library's processor.
 fn c_compiler() -> Command {
     Command::new(std::env::var("CC").unwrap_or_else(|_| String::from("cc")))
-}
-
-/// A compiled program, under the emulator where cargo runs programs under one.
-fn program_at(path: &Path) -> Command {
-    match std::env::var("CARGO_TARGET_X86_64_UNKNOWN_LINUX_GNU_RUNNER") {
-        Ok(emulator) => {
-            let mut command = Command::new(emulator);
-            command.arg(path);
-            command
-        }
-        Err(_) => Command::new(path),
-    }
 }
 
 /// What a C program of host/plombrisa prints.
@@ -78,4 +67,5 @@ fn printed_by_example(name: &str) -> String {
 fn the_rust_examples_run() {
     assert_eq!(printed_by_example("match"), "disparity at (2, 1): 1\n");
     assert_eq!(printed_by_example("sheet"), "8 bytes: [01, 00, 02, 02, 00, 09, 02, 01]\n2 by 2: [NaN, 4.0, -1.0, 0.0]\n");
+    assert_eq!(printed_by_example("netpbm"), "3 by 1: [97, 98, 99]\n2 by 1: [NaN, 4.5]\n");
 }

@@ -53,5 +53,36 @@ int main(void) {
     if (plombrisa_read_sheet(sheet, 8, back, 3, &kind, &width, &height) != 11 || kind != 7 || back[0] != 7) return 21;
     if (plombrisa_read_sheet(sheet, 8, back, 4, &kind, &width, &height) != 0 || kind != 0 || width != 4 || height != 1) return 22;
     if (!isnan(back[0]) || back[1] != 4 || back[2] != -1 || back[3] != 0) return 23;
+
+    const uint8_t pgm[] = "P5\n3 2\n255\nabcdef";
+    const size_t pgm_len = sizeof pgm - 1;
+    uint8_t levels[7] = {7, 7, 7, 7, 7, 7, 77};
+    width = height = 7;
+    if (plombrisa_pgm_size(pgm, pgm_len - 1, &width, &height) != 44 || width != 7 || height != 7) return 24;
+    if (plombrisa_pgm_size(pgm, pgm_len, &width, &height) != 0 || width != 3 || height != 2) return 25;
+    width = height = 7;
+    if (plombrisa_read_pgm(pgm, pgm_len, levels, 7, &width, &height) != 45 || width != 7 || levels[0] != 7) return 26;
+    if (plombrisa_read_pgm(pgm, pgm_len, levels, 6, &width, &height) != 0 || width != 3 || height != 2) return 27;
+    if (memcmp(levels, "abcdef", 6) != 0 || levels[6] != 77) return 28;
+
+    const float two_rows[6] = {NAN, 4, -1, 0, 1, 2};
+    uint8_t pfm[37];
+    memset(pfm, 77, sizeof pfm);
+    if (plombrisa_pfm_length(two_rows, 6, 3, 2, &number) != 0 || number != 36) return 29;
+    number = 7;
+    if (plombrisa_write_pfm(two_rows, 6, 2, 2, pfm, 37, &number) != 23 || number != 7 || pfm[0] != 77) return 30;
+    if (plombrisa_write_pfm(two_rows, 6, 3, 2, pfm, 35, &number) != 45 || number != 7 || pfm[0] != 77) return 31;
+    if (plombrisa_write_pfm(two_rows, 6, 3, 2, pfm, 37, &number) != 0 || number != 36 || pfm[36] != 77) return 32;
+    const uint8_t blank[4] = {0, 0, 0x80, 0x7F};
+    if (memcmp(pfm, "Pf\n3 2\n-1.0\n\0\0\0", 15) != 0 || memcmp(pfm + 24, blank, 4) != 0) return 33;
+
+    float rows[6] = {7, 7, 7, 7, 7, 7};
+    width = height = 7;
+    if (plombrisa_pfm_size(pfm, 37, &width, &height) != 44 || width != 7 || height != 7) return 34;
+    if (plombrisa_pfm_size(pfm, 36, &width, &height) != 0 || width != 3 || height != 2) return 35;
+    width = height = 7;
+    if (plombrisa_read_pfm(pfm, 36, rows, 5, &width, &height) != 45 || width != 7 || rows[0] != 7) return 36;
+    if (plombrisa_read_pfm(pfm, 36, rows, 6, &width, &height) != 0 || width != 3 || height != 2) return 37;
+    if (!isnan(rows[0]) || rows[1] != 4 || rows[2] != -1 || rows[3] != 0 || rows[4] != 1 || rows[5] != 2) return 38;
     return 0;
 }

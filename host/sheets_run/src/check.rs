@@ -1,12 +1,12 @@
 //! One input on both sides: the library's answer and every lent cell, held to `format`.
 use crate::maps::Writing;
-use crate::room::Room;
 use crate::sheets::Reading;
 use plombrisa::{
     Kind, Map, Refusal, read_sheet, read_sheet_in, sheet_length_in, sheet_size_in, write_sheet, write_sheet_in,
 };
+use runs::room::Room;
+use runs::same::{equal, same_bytes, same_cells};
 use sheets_run::format::{self, Head};
-use std::fmt::Debug;
 
 /// What a lent number holds before a call: no count, no kind and no side.
 const WAS: [u64; 3] = [0xA5A5_0000_1111_2222, 0xA5A5_0000_3333_4444, 0xA5A5_0000_5555_6666];
@@ -21,31 +21,6 @@ pub struct Both {
 
 fn number_of<T>(answer: &Result<T, Refusal>) -> u32 {
     answer.as_ref().map_or_else(|refusal| refusal.number(), |_| 0)
-}
-
-fn equal<T: PartialEq + Debug>(what: &str, is: T, should: T) -> Result<(), String> {
-    if is == should { Ok(()) } else { Err(format!("{what}: {is:?}, not {should:?}")) }
-}
-
-fn same_bytes(what: &str, is: &[u8], should: &[u8]) -> Result<(), String> {
-    equal(what, is.len(), should.len())?;
-    match (0..is.len()).find(|&i| is[i] != should[i]) {
-        Some(i) => Err(format!("{what}: byte {i} is {:02X}, not {:02X}", is[i], should[i])),
-        None => Ok(()),
-    }
-}
-
-/// The bits of the library's mark.
-const MARK: u32 = 0x7FC0_0000;
-
-/// The cells that the library read, bit for bit; where a NaN should be, whatever its bits, the mark is.
-fn same_cells(what: &str, is: &[f32], should: &[f32]) -> Result<(), String> {
-    equal(what, is.len(), should.len())?;
-    let same = |a: f32, b: f32| a.to_bits() == if b.is_nan() { MARK } else { b.to_bits() };
-    match (0..is.len()).find(|&i| !same(is[i], should[i])) {
-        Some(i) => Err(format!("{what}: cell {i} is {:08X}, not {:08X}", is[i].to_bits(), should[i].to_bits())),
-        None => Ok(()),
-    }
 }
 
 /// The numbers that a reading lends: the head's where it was accepted, else as they were.

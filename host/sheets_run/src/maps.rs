@@ -1,5 +1,5 @@
 //! Maps to be written: good ones with cells at every boundary, and unfit ones of every kind.
-use crate::rng::Rng;
+use runs::rng::Rng;
 use std::fmt;
 
 /// How long the output is that is lent, beside the sheet that is to go there.

@@ -1,6 +1,6 @@
 //! Bytes to be read: sheets, and sheets with one fault or more of every kind that a mail, a disk or an ill-wisher makes.
 use crate::maps;
-use crate::rng::Rng;
+use runs::rng::Rng;
 use sheets_run::format;
 use std::fmt;
 

@@ -1,0 +1,116 @@
+//! Holds the library's PGM and PFM to another reading of the request: the same inputs on both sides, every answer, every byte and
+//! every cell, lent or beside what was lent.
+//!
+//! `netpbm_run [SEED] [COUNT]`; the same seed gives the same inputs in the same order, after some that are always there. The
+//! status is 1 after a difference, with the input, and where some refusal was never answered, for then the inputs were too few to
+//! say anything of it.
+mod cells;
+mod check;
+mod files;
+mod maps;
+
+use check::Both;
+use files::{Format, Reading};
+use maps::Writing;
+use runs::rng::Rng;
+use runs::tally::Tally;
+
+/// The kinds of call, with the refusals that each answers.
+const PGM: (&str, &[u32]) = ("reading PGM", &[41, 42, 43, 44, 45]);
+const PFM: (&str, &[u32]) = ("reading PFM", &[41, 43, 44, 45]);
+const WRITING: (&str, &[u32]) = ("writing PFM", &[23, 45]);
+
+struct Run {
+    both: Both,
+    tally: Tally,
+}
+
+impl Run {
+    fn read(&mut self, recipe: &'static str, input: &Reading) {
+        match input.format {
+            Format::Pgm => self.tally.count(PGM.0, recipe, input, self.both.check_pgm(input)),
+            Format::Pfm => self.tally.count(PFM.0, recipe, input, self.both.check_pfm(input)),
+        }
+    }
+
+    fn write(&mut self, recipe: &'static str, input: &Writing) {
+        self.tally.count(WRITING.0, recipe, input, self.both.check_writing(input));
+    }
+}
+
+/// Small files of which every byte is replaced by every other, and which are cut everywhere.
+const SMALL: [(Format, &[u8], usize); 6] = [
+    (Format::Pgm, b"P5\n2 1\n255\nab", 2),
+    (Format::Pgm, b"P5#c\n2#\r1 #\n255 ab", 2),
+    (Format::Pgm, b"P5 10 1 255 0123456789", 10),
+    (Format::Pfm, b"Pf\n1 2\n-1.0\n\x01\x02\x03\x04\x05\x06\x07\x08", 2),
+    (Format::Pfm, b"Pf\n2 1\n+1\n\x01\x02\x03\x04\x05\x06\x07\x08", 2),
+    (Format::Pfm, b"Pf\n1 1\n0.01\n\x01\x02\x03\x04", 1),
+];
+
+/// What needs no seed, or is too large to be drawn often: every byte at every place of some small files and every cut of them,
+/// every exponent, and files and maps of the largest size.
+fn fixed(run: &mut Run, seed: u64, reading: &mut Reading, writing: &mut Writing) {
+    for (format, file, cells) in SMALL {
+        for at in 0..file.len() {
+            reading.set(format, &file[..at], cells);
+            run.read("small files, cut everywhere", reading);
+            for byte in 0..=255 {
+                let mut other = file.to_vec();
+                other[at] = byte;
+                reading.set(format, &other, cells);
+                run.read("small files with every byte at every place", reading);
+                other = file.to_vec();
+                other.insert(at, byte);
+                reading.set(format, &other, cells);
+                run.read("small files with every byte put in at every place", reading);
+            }
+        }
+    }
+    for exponent in 0..1u32 << 9 {
+        for rest in [0, 1, 0x3F_FFFF, 0x40_0000, 0x7F_FFFF] {
+            let cell = f32::from_bits(exponent << 23 | rest);
+            for (scale, bytes) in [(&b"-1"[..], cell.to_le_bytes()), (b"1", cell.to_be_bytes())] {
+                reading.set(Format::Pfm, &[b"Pf\n1 1\n", scale, b"\n", &bytes].concat(), 1);
+                run.read("PFM of one cell, every exponent in both byte orders", reading);
+            }
+            writing.one_cell(cell);
+            run.write("maps of one cell, every exponent", writing);
+        }
+    }
+    let mut rng = Rng::new(!seed);
+    for (width, height) in [(2048, 2048), (640, 480)] {
+        for format in [Format::Pgm, Format::Pfm, Format::Pfm] {
+            reading.good_file(&mut rng, format, width, height);
+            run.read("files to 2,048 by 2,048", reading);
+        }
+        writing.good_of(&mut rng, width, height);
+        run.write("maps to 2,048 by 2,048", writing);
+    }
+    for scale in [&b"-1.0"[..], b"1.0"] {
+        let cells: Vec<u8> = (0..4 * 2048 * 2048).map(|_| rng.next() as u8).collect();
+        reading.set(Format::Pfm, &[b"Pf\n2048 2048\n", scale, b"\n", &cells].concat(), 2048 * 2048);
+        run.read("files to 2,048 by 2,048", reading);
+    }
+}
+
+fn main() {
+    let words: Vec<u64> = std::env::args().skip(1).map(|w| w.parse().expect("SEED and COUNT are whole numbers")).collect();
+    let seed = words.first().copied().unwrap_or(1);
+    let count = words.get(1).copied().unwrap_or(1_000_000);
+    println!("seed {seed}, {count} inputs");
+    let mut rng = Rng::new(seed);
+    let mut run = Run { both: Both::new(), tally: Tally::new(seed, &[PGM, PFM, WRITING]) };
+    let (mut reading, mut writing) = (Reading::new(), Writing::new());
+    fixed(&mut run, seed, &mut reading, &mut writing);
+    for _ in 0..count {
+        if rng.below(4) < 3 {
+            let recipe = reading.next(&mut rng);
+            run.read(recipe, &reading);
+        } else {
+            let recipe = writing.next(&mut rng);
+            run.write(recipe, &writing);
+        }
+    }
+    run.tally.report();
+}

@@ -1,0 +1,190 @@
+//! The tool as a user starts it: on the example in both modes, and on files and words that it must turn away.
+use heap::scene::Scene;
+use plombrisa::{Map, Options, Picture, cover, match_block, read_pfm};
+use runs::program::program_at;
+use std::fs;
+use std::path::{Path, PathBuf};
+
+const LEFT: &str = concat!(env!("CARGO_MANIFEST_DIR"), "/example/left.pgm");
+const RIGHT: &str = concat!(env!("CARGO_MANIFEST_DIR"), "/example/right.pgm");
+
+/// A file of a test's own.
+fn own(name: &str) -> PathBuf {
+    Path::new(env!("CARGO_TARGET_TMPDIR")).join(name)
+}
+
+/// How a run ended: the exit status, and what was printed to either stream.
+struct Ended {
+    status: Option<i32>,
+    out: String,
+    err: String,
+}
+
+fn tool(words: &[&str]) -> Ended {
+    let output = program_at(Path::new(env!("CARGO_BIN_EXE_tool"))).args(words).output().expect("the tool runs");
+    let text = |bytes: Vec<u8>| String::from_utf8(bytes).expect("text");
+    Ended { status: output.status.code(), out: text(output.stdout), err: text(output.stderr) }
+}
+
+/// A run on these pictures, with a map and a preview of this name.
+fn matched(left: &str, right: &str, name: &str, options: &[&str]) -> (Ended, PathBuf, PathBuf) {
+    let (map, preview) = (own(&format!("{name}.pfm")), own(&format!("{name}.png")));
+    for file in [&map, &preview] {
+        let _ = fs::remove_file(file);
+    }
+    let files = ["match", left, right, map.to_str().expect("a name"), preview.to_str().expect("a name")];
+    (tool(&[&files, options].concat()), map, preview)
+}
+
+/// The tool turns something away: status 1, the words in what it says, and no file written.
+fn turned_away(left: &str, right: &str, name: &str, options: &[&str], words: &[&str]) {
+    let (ended, map, preview) = matched(left, right, name, options);
+    assert_eq!(ended.status, Some(1), "{name}: {}", ended.err);
+    for word in words {
+        assert!(ended.err.contains(word), "{name}: {:?} does not say {word:?}", ended.err);
+    }
+    assert!(ended.out.is_empty() && !map.exists() && !preview.exists(), "{name}");
+    assert!(!ended.err.contains("panicked"), "{name}: {}", ended.err);
+}
+
+#[test]
+fn the_example_is_the_scene() {
+    let [left, right] = Scene::example().pgm_files();
+    assert!(fs::read(LEFT).expect("the left picture") == left, "example/left.pgm is not what `heap pair` writes");
+    assert!(fs::read(RIGHT).expect("the right picture") == right, "example/right.pgm is not what `heap pair` writes");
+}
+
+/// The tool's map is `match_block`'s, each hole as plus infinity; the preview has the map's size; the cover is the library's.
+fn on_the_example(name: &str, words: &[&str], options: Options) {
+    let (ended, map_file, preview) = matched(LEFT, RIGHT, name, words);
+    assert_eq!((ended.status, ended.err.as_str()), (Some(0), ""), "{name}");
+
+    let scene = Scene::example();
+    let (width, height) = (scene.width, scene.height);
+    let picture = |bytes| Picture { bytes, width, height };
+    let cells = match_block(picture(&scene.left), picture(&scene.right), &options).expect("the pair is accepted");
+    let permille = cover(Map { cells: &cells, width, height }).expect("a map");
+    assert_eq!(ended.out, format!("size: 200 by 150\ncover: {permille} of 1000\n"), "{name}");
+
+    let written = fs::read(map_file).expect("the map");
+    let mut expected = b"Pf\n200 150\n-1.0\n".to_vec();
+    for row in cells.chunks(width).rev() {
+        let hole = f32::INFINITY;
+        row.iter().for_each(|cell| expected.extend(if cell.is_nan() { hole } else { *cell }.to_le_bytes()));
+    }
+    assert!(written == expected, "{name}: the map is another");
+    assert!(cells.iter().any(|cell| cell.is_nan()) && cells.iter().any(|cell| cell.is_finite()), "{name}");
+
+    let map = read_pfm(&written).expect("the map reads back");
+    let same = |(a, b): (&f32, &f32)| a.to_bits() == b.to_bits() || (a.is_nan() && b.is_nan());
+    assert!((map.width, map.height) == (width, height) && map.cells.iter().zip(&cells).all(same), "{name}");
+
+    let png = fs::read(preview).expect("the preview");
+    assert!(png.starts_with(b"\x89PNG\r\n\x1a\n\0\0\0\x0DIHDR\0\0\0\xC8\0\0\0\x96"), "{name}: no preview of 200 by 150");
+    assert!(red_pixels(&png, width).eq(cells.iter().map(|cell| cell.is_nan())), "{name}: the preview's red is not the map's holes");
+}
+
+/// Which pixels of a PNG file are red, by rows. The file is one of host/heap's, small enough for one stored block: the colours are
+/// behind the name PLTE; behind IDAT are seven bytes of zlib's and then the rows, each with a byte of its own before its pixels.
+fn red_pixels(png: &[u8], width: usize) -> impl Iterator<Item = bool> {
+    let chunk = |name: &[u8; 4]| {
+        let at = png.windows(4).position(|four| four == name).expect("the chunk");
+        let length = u32::from_be_bytes(png[at - 4..at].try_into().expect("four bytes")) as usize;
+        &png[at + 4..at + 4 + length]
+    };
+    let red = chunk(b"PLTE").chunks(3).position(|colour| colour == [200, 30, 30]).expect("red") as u8;
+    let rows = &chunk(b"IDAT")[7..];
+    rows[..rows.len() - 4].chunks(1 + width).flat_map(move |row| row[1..].iter().map(move |&pixel| pixel == red))
+}
+
+/// What the README says of the example: its command, and the cover of both modes.
+#[test]
+fn the_readme_says_what_is_printed() {
+    let readme = fs::read_to_string(concat!(env!("CARGO_MANIFEST_DIR"), "/../../README.md")).expect("README.md");
+    let (block, ..) = matched(LEFT, RIGHT, "readme_block", &["--num-disparities", "24"]);
+    assert!(readme.contains("tool/example/right.pgm map.pfm preview.png --num-disparities 24\n"));
+    assert!(readme.contains(&format!("```\n{}```\n", block.out)), "{}", block.out);
+    let (semi_global, ..) = matched(LEFT, RIGHT, "readme_semi", &["--num-disparities", "24", "--semi-global", "--no-lr"]);
+    let cover = semi_global.out.split_whitespace().nth(5).expect("the cover");
+    assert!(readme.contains(&format!("whose cover is {cover}:")), "{}", semi_global.out);
+}
+
+#[test]
+fn the_example_in_block_mode() {
+    on_the_example("block", &["--num-disparities", "24"], Options { num_disparities: 24, ..Options::default() });
+    on_the_example("defaults", &[], Options::default());
+}
+
+#[test]
+fn the_example_in_semi_global_mode() {
+    let options = Options { num_disparities: 24, semi_global: true, lr_consistency: false, ..Options::default() };
+    on_the_example("semi_global", &["--semi-global", "--no-lr", "--num-disparities", "24"], options);
+    let whole = Options { subpixel: false, lr_consistency: true, min_disparity: -2, block_size: 5, ..options };
+    let words = ["--semi-global", "--no-subpixel", "--num-disparities", "24", "--min-disparity", "-2", "--block-size", "5"];
+    on_the_example("whole", &words, whole);
+}
+
+#[test]
+fn malformed_files_are_named_with_their_refusal() {
+    let hand_made: [(&str, &[u8], &str); 9] = [
+        ("empty", b"", "41"),
+        ("plain", b"P2\n2 1\n255\n7 8\n", "41"),
+        ("comment_behind", b"P5\n2 1\n255#\nab", "41"),
+        ("maximum", b"P5\n2 1\n254\nab", "42"),
+        ("two_bytes", b"P5\n2 1\n65535\nabcd", "42"),
+        ("no_width", b"P5\n0 1\n255\n", "43"),
+        ("too_wide", b"P5\n2049 1\n255\n", "43"),
+        ("cut", b"P5\n2 1\n255\na", "44"),
+        ("left_over", b"P5\n2 1\n255\nabc", "44"),
+    ];
+    for (name, bytes, number) in hand_made {
+        let file = own(&format!("{name}.pgm"));
+        fs::write(&file, bytes).expect("the file can be written");
+        let file = file.to_str().expect("a name");
+        let said = format!("{file}: refused, {number}: ");
+        turned_away(file, RIGHT, &format!("{name}_left"), &[], &[&said]);
+        turned_away(LEFT, file, &format!("{name}_right"), &[], &[&said]);
+    }
+}
+
+#[test]
+fn pictures_that_the_matcher_refuses() {
+    let small = own("small.pgm");
+    fs::write(&small, b"P5 2 1 255\nab").expect("the file can be written");
+    let small = small.to_str().expect("a name");
+    turned_away(LEFT, small, "sizes", &[], &[LEFT, small, "refused, 3: "]);
+    turned_away(small, small, "small", &[], &[small, "refused, 8: "]);
+    turned_away(LEFT, RIGHT, "even", &["--block-size", "4"], &[LEFT, RIGHT, "refused, 4: "]);
+    turned_away(LEFT, RIGHT, "large", &["--block-size", "33"], &["refused, 5: "]);
+    turned_away(LEFT, RIGHT, "none", &["--num-disparities", "0"], &["refused, 6: "]);
+    turned_away(LEFT, RIGHT, "many", &["--num-disparities", "257"], &["refused, 7: "]);
+    turned_away(LEFT, RIGHT, "first", &["--min-disparity", "5000"], &["refused, 9: "]);
+    turned_away(LEFT, RIGHT, "penalty", &["--semi-global", "--sgm-p1", "NaN"], &["refused, 10: "]);
+}
+
+#[test]
+fn files_that_are_not_there_or_cannot_be_written() {
+    turned_away("/nowhere/left.pgm", RIGHT, "missing", &[], &["/nowhere/left.pgm: cannot be read: "]);
+    turned_away(LEFT, env!("CARGO_TARGET_TMPDIR"), "folder", &[], &["cannot be read: "]);
+    let preview = own("unwritten.png");
+    let preview = preview.to_str().expect("a name");
+    let words = |map, preview| ["match", LEFT, RIGHT, map, preview, "--num-disparities", "4"];
+    let ended = tool(&words("/nowhere/map.pfm", preview));
+    assert_eq!(ended.status, Some(1));
+    assert!(ended.err.contains("/nowhere/map.pfm: cannot be written: "), "{}", ended.err);
+    let map = own("unwritten.pfm");
+    let ended = tool(&words(map.to_str().expect("a name"), "/nowhere/preview.png"));
+    assert_eq!(ended.status, Some(1));
+    assert!(ended.err.contains("/nowhere/preview.png: cannot be written: "), "{}", ended.err);
+}
+
+#[test]
+fn words_that_make_no_sense_are_answered_with_the_usage() {
+    let unknown = ["match", LEFT, RIGHT, "m", "p", "--deep"];
+    let no_value = ["match", LEFT, RIGHT, "m", "p", "--block-size", "x"];
+    for words in [&[][..], &["match"], &["draw"], &unknown, &no_value] {
+        let ended = tool(words);
+        assert_eq!(ended.status, Some(2), "{words:?}");
+        assert!(ended.err.contains("usage: tool match LEFT.pgm RIGHT.pgm MAP.pfm PREVIEW.png"), "{words:?}: {}", ended.err);
+    }
+}
