@@ -1,5 +1,5 @@
 -- Every PFM header of the grammar is read, and no other. Assumes nothing.
-use Prim.Native.Nat.{ℕ, _+_, _-_, _≤_}
+use Prim.Native.Nat.{ℕ, _+_, _-_, _<_}
 use mathlib.Core.Path.{_≡_, refl, ap, _∙_, subst}
 use mathlib.Core.Bool.{Bool, true, false, cond}
 use mathlib.Core.List.{List, [], _∷_, _++_, append-assoc}
@@ -152,17 +152,17 @@ pfm-head-only s head e =
     })
 
 -- THEOREM: what is written before a map is such a header
-pub pfm-head-written : (w h : ℕ) (s : List ℕ) → w ≤ 2048 → h ≤ 2048 → PfmHeader (pfmHead w h ++ s) Little w h s
+pub pfm-head-written : (w h : ℕ) (s : List ℕ) → w < 10000 → h < 10000 → PfmHeader (pfmHead w h ++ s) Little w h s
 unfolding pfmHead
-pfm-head-written w h s narrow low =
+pfm-head-written w h s few less =
     let digit : (b : ℕ) → isDigit b ≡ true → Numeral (b ∷ []) (b - 48) = λ b d. record { digit = rw d; some = omega arith; value = omega arith } in
     record {
       width = decimalText w;
       height = decimalText h;
       scale = scaleLine;
       text = refl;
-      wide = decimal-numeral w (omega arith);
-      high = decimal-numeral h (omega arith);
+      wide = decimal-numeral w few;
+      high = decimal-numeral h less;
       order = record {
         sign = minus;
         units = 49 ∷ [];

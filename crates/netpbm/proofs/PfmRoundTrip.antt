@@ -68,7 +68,7 @@ pfm-back w h cells s fit none e =
     omega (arith, cells-length Little (bottomUp w h cells), bottomUp-length w h cells (omega (arith, g .long, mul-comm w h))) in
     rw (
       ← file .1,
-      pfm-head-read _ Little w h bytes (pfm-head-written w h bytes (g .narrow) (g .low)),
+      pfm-head-read _ Little w h bytes (pfm-head-written w h bytes (omega (arith, g .narrow)) (omega (arith, g .low))),
       sized-taken 4 w h bytes (g .wide) (g .narrow) (g .high) (g .low) long,
       rows-back Little w h cells fit none (g .long),
     )

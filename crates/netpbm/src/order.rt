@@ -1,7 +1,7 @@
 // The four bytes of a cell, in either order.
 ghost use mathlib.Core.Path.{_≡_};
 ghost use mathlib.Core.List.{[], _∷_};
-ghost use Prim.Native.Nat.{_+_, _≤_, _<_};
+ghost use Prim.Native.Nat.{_+_, _≤_};
 ghost use lib.ListN.{length, take, drop};
 ghost use lib.Ieee.{binary32, toBits, ofBits};
 ghost use Rattle.lists.specs.Stores.{Wrote};
