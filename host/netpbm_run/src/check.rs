@@ -1,10 +1,10 @@
 //! One input on both sides: the library's answer and every lent cell, held to `format`.
 use crate::files::Reading;
-use crate::maps::Writing;
 use netpbm_run::format::{self, Size};
 use plombrisa::{
     Map, Refusal, pfm_length_in, pfm_size_in, pgm_size_in, read_pfm, read_pfm_in, read_pgm, read_pgm_in, write_pfm, write_pfm_in,
 };
+use runs::maps::MadeMap;
 use runs::room::Room;
 use runs::same::{equal, same_bytes, same_cells};
 
@@ -50,7 +50,7 @@ impl Both {
 
     /// Bytes to be read as PGM. The answer's number.
     pub fn check_pgm(&mut self, input: &Reading) -> Result<u32, String> {
-        let file = input.lent();
+        let file = input.bytes.lent();
         let found = format::read_pgm(file, &mut self.levels);
         let [mut width, mut height] = WAS;
         let answer = pgm_size_in(file, &mut width, &mut height);
@@ -77,7 +77,7 @@ impl Both {
 
     /// Bytes to be read as PFM; and what was read, written and read again, is the same map. The answer's number.
     pub fn check_pfm(&mut self, input: &Reading) -> Result<u32, String> {
-        let file = input.lent();
+        let file = input.bytes.lent();
         let found = format::read_pfm(file, &mut self.cells);
         let [mut width, mut height] = WAS;
         let answer = pfm_size_in(file, &mut width, &mut height);
@@ -109,7 +109,7 @@ impl Both {
     }
 
     /// A map to be written; and what was written reads back. The answer's number.
-    pub fn check_writing(&mut self, input: &Writing) -> Result<u32, String> {
+    pub fn check_writing(&mut self, input: &MadeMap) -> Result<u32, String> {
         let map = Map { cells: input.lent(), width: input.width, height: input.height };
         let made = format::write_pfm(map.cells, map.width, map.height, &mut self.file);
         // a map that has no file is lent as much as any of its length could take

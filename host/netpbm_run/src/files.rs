@@ -1,7 +1,11 @@
 //! Bytes to be read: PGM and PFM files with every kind of header, and files with one fault or more of every kind that a mail, a
 //! disk, another program or an ill-wisher makes.
-use crate::cells::cells;
+use crate::maps::number;
+use runs::bytes::{Bytes, Spoilt};
+use runs::maps::cells;
+use runs::recipes::{Recipe, follow_one, take_one};
 use runs::rng::Rng;
+use runs::sizes;
 use std::fmt;
 
 #[derive(Debug, Clone, Copy, PartialEq, Eq)]
@@ -10,12 +14,10 @@ pub enum Format {
     Pfm,
 }
 
-/// Bytes to be read: the first `len` of them, and a reader that runs on finds more behind. A file is made here as parts first, for
-/// a part can then be made wrong before they become bytes.
+/// Bytes to be read. A file is made here as parts first, for a part can then be made wrong before they become bytes.
 pub struct Reading {
     pub format: Format,
-    bytes: Vec<u8>,
-    len: usize,
+    pub bytes: Bytes,
     pub out_len: usize,
     parts: Parts,
 }
@@ -35,7 +37,8 @@ struct Parts {
 impl fmt::Debug for Reading {
     fn fmt(&self, f: &mut fmt::Formatter) -> fmt::Result {
         // all the bytes of an input by a recipe; of the largest file the first of them, for the seed gives the others
-        let shown = &self.lent()[..self.len.min(20_000)];
+        let lent = self.bytes.lent();
+        let shown = &lent[..lent.len().min(20_000)];
         write!(f, "read {:?}: cells lent {}, bytes \"{}\"", self.format, self.out_len, shown.escape_ascii())
     }
 }
@@ -128,26 +131,15 @@ fn no_number(rng: &mut Rng, digits: &[u8]) -> Vec<u8> {
     [&digits[..at], &[stray], &digits[at..]].concat()
 }
 
-/// A byte that has no place: any, or one that a reader turns on.
-fn stray_byte(rng: &mut Rng) -> u8 {
-    if rng.one_in(6) { rng.next() as u8 } else { rng.pick(b" \n\r#0159P.-+\0") }
-}
-
 impl Reading {
     pub fn new() -> Self {
-        Self { format: Format::Pgm, bytes: Vec::new(), len: 0, out_len: 0, parts: Parts::default() }
-    }
-
-    pub fn lent(&self) -> &[u8] {
-        &self.bytes[..self.len]
+        Self { format: Format::Pgm, bytes: Bytes::new(Vec::new()), out_len: 0, parts: Parts::default() }
     }
 
     /// These bytes, and this many cells for them.
     pub fn set(&mut self, format: Format, bytes: &[u8], out_len: usize) {
         self.format = format;
-        self.bytes.clear();
-        self.bytes.extend_from_slice(bytes);
-        self.len = bytes.len();
+        self.bytes = Bytes::new(bytes.to_vec());
         self.out_len = out_len;
     }
 
@@ -156,10 +148,10 @@ impl Reading {
         let pgm = self.format == Format::Pgm;
         self.out_len = width * height;
         let data = if pgm {
-            (0..self.out_len).map(|_| if rng.one_in(3) { stray_byte(rng) } else { rng.next() as u8 }).collect()
+            (0..self.out_len).map(|_| if rng.one_in(3) { Self::stray_byte(rng) } else { rng.next() as u8 }).collect()
         } else {
             let mut numbers = Vec::new();
-            cells(rng, self.out_len, &mut numbers);
+            cells(rng, number, self.out_len, &mut numbers);
             numbers.iter().flat_map(|cell| cell.to_le_bytes()).collect()
         };
         self.parts = Parts {
@@ -177,7 +169,7 @@ impl Reading {
     }
 
     fn good(&mut self, rng: &mut Rng) {
-        let (width, height) = (1 + rng.below(5), 1 + rng.below(4));
+        let (width, height) = sizes::small(rng);
         self.good_of(rng, width, height);
     }
 
@@ -185,17 +177,14 @@ impl Reading {
     pub fn good_file(&mut self, rng: &mut Rng, format: Format, width: usize, height: usize) {
         self.format = format;
         self.good_of(rng, width, height);
-        self.encode();
+        self.encode(rng);
     }
 
     /// The bytes of the parts, all of them lent.
-    fn encode(&mut self) {
+    fn encode(&mut self, _: &mut Rng) {
         let Parts { magic, gaps, width, height, third, data } = &self.parts;
-        self.bytes.clear();
-        for part in [magic, &gaps[0], width, &gaps[1], height, &gaps[2], third, &gaps[3], data] {
-            self.bytes.extend_from_slice(part);
-        }
-        self.len = self.bytes.len();
+        let parts = [magic, &gaps[0], width, &gaps[1], height, &gaps[2], third, &gaps[3], data];
+        self.bytes = Bytes::new(parts.map(Vec::as_slice).concat());
     }
 
     fn spoil_magic(&mut self, rng: &mut Rng) {
@@ -260,53 +249,12 @@ impl Reading {
         };
     }
 
-    /// Some bytes are not lent any more; they stay behind those that are.
-    fn cut(&mut self, rng: &mut Rng) {
-        let most = rng.pick(&[2, 6, self.len.max(1)]).min(self.len.max(1));
-        self.len -= (1 + rng.below(most)).min(self.len);
-    }
-
-    /// Bits flipped, in the header as often as in all.
-    fn flip(&mut self, rng: &mut Rng) {
-        for _ in 0..rng.pick(&[1, 1, 2, 3, 8]) {
-            if self.len > 0 {
-                let within = rng.pick(&[self.len, self.len.min(14)]);
-                self.bytes[rng.below(within)] ^= 1 << rng.below(8);
-            }
-        }
-    }
-
-    fn insert_or_remove(&mut self, rng: &mut Rng) {
-        let within = rng.pick(&[self.len, self.len.min(14)]);
-        let at = rng.below(within + 1);
-        if rng.one_in(2) || at == self.len {
-            self.bytes.insert(at, stray_byte(rng));
-            self.len += 1;
-        } else {
-            self.bytes.remove(at);
-            self.len -= 1;
-        }
-    }
-
-    fn left_over(&mut self, rng: &mut Rng) {
-        self.bytes.truncate(self.len);
-        for _ in 0..rng.pick(&[1, 1, 1, 2, 4, 5]) {
-            self.bytes.push(stray_byte(rng));
-        }
-        self.len = self.bytes.len();
-    }
-
-    fn spoil_output(&mut self, rng: &mut Rng) {
-        let fits = self.out_len;
-        self.out_len = rng.pick(&[fits + 1, fits.saturating_sub(1), 0, 2 * fits, 4 * fits, self.len]);
-    }
-
     /// Bytes that were never a file: any, ones that readers turn on, and either behind a magic number.
     fn random(&mut self, rng: &mut Rng) {
         let any = rng.one_in(3);
         let mut bytes = rng.pick(&[&b""[..], b"P5", b"P5 ", b"P5 1 1 255", b"Pf\n", b"Pf\n1 1\n"]).to_vec();
         for _ in 0..rng.below(24) {
-            bytes.push(if any { rng.next() as u8 } else { stray_byte(rng) });
+            bytes.push(if any { rng.next() as u8 } else { Self::stray_byte(rng) });
         }
         let out_len = rng.below(12);
         self.set(self.format, &bytes, out_len);
@@ -315,77 +263,68 @@ impl Reading {
     /// Files that say a large size: most with few cells behind it, a few with as many as they say.
     fn large(&mut self, rng: &mut Rng) {
         let long = rng.pick(&[9, 10, 99, 100, 1000, 2047, 2048]);
-        let short = rng.pick(&[1, 1, 2]);
-        let (width, height) = rng.pick(&[(long, short), (short, long)]);
+        let (width, height) = sizes::narrow(rng, long);
         if rng.one_in(20) {
             self.good_of(rng, width, height);
-            self.encode();
-            match rng.below(6) {
-                0 => self.cut(rng),
-                1 => self.left_over(rng),
-                2 => self.spoil_output(rng),
-                _ => {}
-            }
-            return;
+            self.encode(rng);
+            return self.spoil_length(rng);
         }
         self.good(rng);
         (self.parts.width, self.parts.height) = (digits(rng, width), digits(rng, height));
-        self.encode();
+        self.encode(rng);
     }
 
     fn part_faults(&mut self, rng: &mut Rng) {
         let faults = [Self::spoil_magic, Self::spoil_gap, Self::spoil_number, Self::spoil_size, Self::spoil_third];
         for _ in 0..1 + rng.below(2) {
-            faults[rng.below(faults.len())](self, rng);
+            take_one(&faults, self, rng);
         }
-    }
-
-    fn byte_fault(&mut self, rng: &mut Rng) {
-        let faults = [Self::cut, Self::flip, Self::insert_or_remove, Self::left_over, Self::spoil_output];
-        faults[rng.below(faults.len())](self, rng);
     }
 
     /// The next input by a recipe, and the recipe's name.
     pub fn next(&mut self, rng: &mut Rng) -> &'static str {
         self.format = rng.pick(&[Format::Pgm, Format::Pfm]);
-        match rng.below(RECIPES.len() + 2) {
-            0 => {
-                self.random(rng);
-                "random bytes"
-            }
-            1 => {
-                self.large(rng);
-                "files of a large size, most with few cells"
-            }
-            recipe => {
-                let (name, of_parts, of_bytes) = RECIPES[recipe - 2];
-                self.good(rng);
-                of_parts(self, rng);
-                self.encode();
-                of_bytes(self, rng);
-                name
-            }
-        }
+        follow_one(&Self::RECIPES, self, rng)
     }
+
+    /// Most make something wrong with a good file: before its parts become bytes, or after.
+    const RECIPES: [Recipe<Self>; 15] = [
+        ("random bytes", &[Self::random]),
+        ("files of a large size, most with few cells", &[Self::large]),
+        ("files", &[Self::good, Self::encode]),
+        ("files with another magic number", &[Self::good, Self::spoil_magic, Self::encode]),
+        ("files with an odd gap", &[Self::good, Self::spoil_gap, Self::encode]),
+        ("files with no number in place of one", &[Self::good, Self::spoil_number, Self::encode]),
+        ("files of another size", &[Self::good, Self::spoil_size, Self::encode]),
+        ("files with another maximum or an odd scale", &[Self::good, Self::spoil_third, Self::encode]),
+        (
+            "files with an odd gap, an output that does not fit",
+            &[Self::good, Self::spoil_gap, Self::encode, Self::spoil_output],
+        ),
+        ("files cut", &[Self::good, Self::encode, Self::cut]),
+        ("files with bits flipped", &[Self::good, Self::encode, Self::flip]),
+        ("files with a byte too many or too few", &[Self::good, Self::encode, Self::insert_or_remove]),
+        ("files with bytes left over", &[Self::good, Self::encode, Self::left_over]),
+        ("files with an output that does not fit", &[Self::good, Self::encode, Self::spoil_output]),
+        ("files with two faults or three", &[Self::good, Self::part_faults, Self::encode, Self::byte_fault]),
+    ];
 }
 
-type Fault = fn(&mut Reading, &mut Rng);
+impl Spoilt for Reading {
+    const TURNS: &'static [u8] = b" \n\r#0159P.-+\0";
+    const LEFT_OVER: &'static [usize] = &[1, 1, 1, 2, 4, 5];
 
-fn none(_: &mut Reading, _: &mut Rng) {}
+    fn bytes(&mut self) -> &mut Bytes {
+        &mut self.bytes
+    }
 
-/// What is made wrong with a good file: before its parts become bytes, and after.
-const RECIPES: [(&str, Fault, Fault); 13] = [
-    ("files", none, none),
-    ("files with another magic number", Reading::spoil_magic, none),
-    ("files with an odd gap", Reading::spoil_gap, none),
-    ("files with no number in place of one", Reading::spoil_number, none),
-    ("files of another size", Reading::spoil_size, none),
-    ("files with another maximum or an odd scale", Reading::spoil_third, none),
-    ("files with an odd gap, an output that does not fit", Reading::spoil_gap, Reading::spoil_output),
-    ("files cut", none, Reading::cut),
-    ("files with bits flipped", none, Reading::flip),
-    ("files with a byte too many or too few", none, Reading::insert_or_remove),
-    ("files with bytes left over", none, Reading::left_over),
-    ("files with an output that does not fit", none, Reading::spoil_output),
-    ("files with two faults or three", Reading::part_faults, Reading::byte_fault),
-];
+    /// The header as often as all.
+    fn reach(rng: &mut Rng, len: usize) -> usize {
+        rng.pick(&[len, len.min(14)])
+    }
+
+    fn spoil_output(&mut self, rng: &mut Rng) {
+        let fits = self.out_len;
+        self.out_len = rng.pick(&[fits + 1, fits.saturating_sub(1), 0, 2 * fits, 4 * fits, self.bytes.lent().len()]);
+    }
+}

@@ -4,14 +4,15 @@
 //! `netpbm_run [SEED] [COUNT]`; the same seed gives the same inputs in the same order, after some that are always there. The
 //! status is 1 after a difference, with the input, and where some refusal was never answered, for then the inputs were too few to
 //! say anything of it.
-mod cells;
 mod check;
 mod files;
 mod maps;
 
 use check::Both;
 use files::{Format, Reading};
-use maps::Writing;
+use runs::maps::MadeMap;
+use runs::program::seed_and_count;
+use runs::recipes::follow_one;
 use runs::rng::Rng;
 use runs::tally::Tally;
 
@@ -33,7 +34,7 @@ impl Run {
         }
     }
 
-    fn write(&mut self, recipe: &'static str, input: &Writing) {
+    fn write(&mut self, recipe: &'static str, input: &MadeMap) {
         self.tally.count(WRITING.0, recipe, input, self.both.check_writing(input));
     }
 }
@@ -50,7 +51,7 @@ const SMALL: [(Format, &[u8], usize); 6] = [
 
 /// What needs no seed, or is too large to be drawn often: every byte at every place of some small files and every cut of them,
 /// every exponent, and files and maps of the largest size.
-fn fixed(run: &mut Run, seed: u64, reading: &mut Reading, writing: &mut Writing) {
+fn fixed(run: &mut Run, seed: u64, reading: &mut Reading, writing: &mut MadeMap) {
     for (format, file, cells) in SMALL {
         for at in 0..file.len() {
             reading.set(format, &file[..at], cells);
@@ -95,20 +96,17 @@ fn fixed(run: &mut Run, seed: u64, reading: &mut Reading, writing: &mut Writing)
 }
 
 fn main() {
-    let words: Vec<u64> = std::env::args().skip(1).map(|w| w.parse().expect("SEED and COUNT are whole numbers")).collect();
-    let seed = words.first().copied().unwrap_or(1);
-    let count = words.get(1).copied().unwrap_or(1_000_000);
-    println!("seed {seed}, {count} inputs");
+    let (seed, count) = seed_and_count();
     let mut rng = Rng::new(seed);
     let mut run = Run { both: Both::new(), tally: Tally::new(seed, &[PGM, PFM, WRITING]) };
-    let (mut reading, mut writing) = (Reading::new(), Writing::new());
+    let (mut reading, mut writing) = (Reading::new(), MadeMap::new(maps::number));
     fixed(&mut run, seed, &mut reading, &mut writing);
     for _ in 0..count {
         if rng.below(4) < 3 {
             let recipe = reading.next(&mut rng);
             run.read(recipe, &reading);
         } else {
-            let recipe = writing.next(&mut rng);
+            let recipe = follow_one(&maps::RECIPES, &mut writing, &mut rng);
             run.write(recipe, &writing);
         }
     }

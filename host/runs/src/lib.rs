@@ -1,7 +1,11 @@
-//! What the runs over made inputs share: their numbers, what they lend to the library, how they compare and count, and how a
-//! program that was built is started.
+//! What the runs over made inputs share: their numbers and recipes, the bytes and maps that they make and make wrong,
+//! what they lend to the library, how they compare and count, and how a run or a program that was built is started.
+pub mod bytes;
+pub mod maps;
 pub mod program;
+pub mod recipes;
 pub mod rng;
 pub mod room;
 pub mod same;
+pub mod sizes;
 pub mod tally;

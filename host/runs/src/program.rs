@@ -1,4 +1,4 @@
-//! A program that was built for the library's processor.
+//! A program that was built for the library's processor, and the words that a run is started with.
 use std::path::Path;
 use std::process::Command;
 
@@ -12,4 +12,14 @@ pub fn program_at(path: &Path) -> Command {
         }
         Err(_) => Command::new(path),
     }
+}
+
+/// Prints and gives a run's words SEED and COUNT, in place of missing ones 1 and a million.
+pub fn seed_and_count() -> (u64, u64) {
+    let number = |word: String| word.parse().expect("SEED and COUNT are whole numbers");
+    let words: Vec<u64> = std::env::args().skip(1).map(number).collect();
+    let seed = words.first().copied().unwrap_or(1);
+    let count = words.get(1).copied().unwrap_or(1_000_000);
+    println!("seed {seed}, {count} inputs");
+    (seed, count)
 }

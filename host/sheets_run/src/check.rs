@@ -35,7 +35,7 @@ impl Both {
 
     /// Bytes to be read; and what was read is written as the same bytes. The answer's number.
     pub fn check_reading(&mut self, input: &Reading) -> Result<u32, String> {
-        let bytes = input.lent();
+        let bytes = input.bytes.lent();
         let found = format::read(bytes, &mut self.cells);
         let [mut kind, mut width, mut height] = WAS;
         let answer = sheet_size_in(bytes, &mut kind, &mut width, &mut height);
@@ -78,7 +78,7 @@ impl Both {
 
     /// A map to be written; and what was written reads back. The answer's number.
     pub fn check_writing(&mut self, input: &Writing) -> Result<u32, String> {
-        let map = Map { cells: input.lent(), width: input.width, height: input.height };
+        let map = Map { cells: input.map.lent(), width: input.map.width, height: input.map.height };
         let made = format::write(map.cells, map.width, map.height, input.kind, &mut self.sheet);
         // a map that has no sheet is lent as much as any of its length could take
         let length = if made.is_ok() { self.sheet.len() } else { 20 + 5 * map.cells.len() };
@@ -88,7 +88,7 @@ impl Both {
         equal("length's answer", number_of(&answer), made.err().unwrap_or(0))?;
         equal("length", count, counted)?;
 
-        let out_len = input.output.length(length);
+        let out_len = input.map.output.length(length);
         let should = if made.is_ok() && out_len < length { Err(33) } else { made };
         count = WAS[0];
         let answer = write_sheet_in(map, input.kind, self.bytes_room.lend(out_len), &mut count);

@@ -10,6 +10,8 @@ mod sheets;
 
 use check::Both;
 use maps::Writing;
+use runs::program::seed_and_count;
+use runs::recipes::follow_one;
 use runs::rng::Rng;
 use runs::tally::Tally;
 use sheets::Reading;
@@ -62,20 +64,17 @@ fn fixed(run: &mut Run, seed: u64, reading: &mut Reading, writing: &mut Writing)
 }
 
 fn main() {
-    let words: Vec<u64> = std::env::args().skip(1).map(|w| w.parse().expect("SEED and COUNT are whole numbers")).collect();
-    let seed = words.first().copied().unwrap_or(1);
-    let count = words.get(1).copied().unwrap_or(1_000_000);
-    println!("seed {seed}, {count} inputs");
+    let (seed, count) = seed_and_count();
     let mut rng = Rng::new(seed);
     let mut run = Run { both: Both::new(), tally: Tally::new(seed, &[READING, WRITING]) };
     let (mut reading, mut writing) = (Reading::new(), Writing::new());
     fixed(&mut run, seed, &mut reading, &mut writing);
     for _ in 0..count {
         if rng.below(5) < 3 {
-            let recipe = reading.next(&mut rng);
+            let recipe = follow_one(&Reading::RECIPES, &mut reading, &mut rng);
             run.read(recipe, &reading);
         } else {
-            let recipe = writing.next(&mut rng);
+            let recipe = follow_one(&Writing::RECIPES, &mut writing, &mut rng);
             run.write(recipe, &writing);
         }
     }

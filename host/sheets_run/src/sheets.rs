@@ -1,14 +1,16 @@
 //! Bytes to be read: sheets, and sheets with one fault or more of every kind that a mail, a disk or an ill-wisher makes.
 use crate::maps;
+use runs::bytes::{Bytes, Spoilt};
+use runs::maps::cells;
+use runs::recipes::{Recipe, take_one};
 use runs::rng::Rng;
+use runs::sizes;
 use sheets_run::format;
 use std::fmt;
 
-/// Bytes to be read: the first `len` of them, and a reader that runs on finds more behind. A sheet is made here as numbers first,
-/// for a number can then be made wrong before it becomes bytes.
+/// Bytes to be read. A sheet is made here as numbers first, for one can then be made wrong before they become bytes.
 pub struct Reading {
-    bytes: Vec<u8>,
-    len: usize,
+    pub bytes: Bytes,
     pub out_len: usize,
     numbers: Vec<Number>,
     cells: Vec<f32>,
@@ -23,7 +25,7 @@ struct Number {
 
 impl fmt::Debug for Reading {
     fn fmt(&self, f: &mut fmt::Formatter) -> fmt::Result {
-        write!(f, "read: cells lent {}, bytes {:02X?}", self.out_len, self.lent())
+        write!(f, "read: cells lent {}, bytes {:02X?}", self.out_len, self.bytes.lent())
     }
 }
 
@@ -52,24 +54,15 @@ fn no_cell(rng: &mut Rng, kind: u64) -> u64 {
     }
 }
 
-/// A byte that has no place: any, or one that a number turns on.
-fn stray_byte(rng: &mut Rng) -> u8 {
-    if rng.one_in(6) { rng.next() as u8 } else { rng.pick(&[0, 1, 0x7F, 0x80, 0xFF]) }
-}
-
 impl Reading {
     pub fn new() -> Self {
-        Self { bytes: Vec::new(), len: 0, out_len: 0, numbers: Vec::new(), cells: Vec::new() }
-    }
-
-    pub fn lent(&self) -> &[u8] {
-        &self.bytes[..self.len]
+        Self { bytes: Bytes::new(Vec::new()), out_len: 0, numbers: Vec::new(), cells: Vec::new() }
     }
 
     /// The numbers of a good sheet of this size, and an output that fits it.
     fn good_of(&mut self, rng: &mut Rng, width: usize, height: usize) {
         let kind = rng.below(2) as u64;
-        maps::cells(rng, kind, width * height, &mut self.cells);
+        cells(rng, maps::number(kind), width * height, &mut self.cells);
         self.numbers.clear();
         self.out_len = width * height;
         let head = [1, kind, width as u64, height as u64];
@@ -78,29 +71,30 @@ impl Reading {
     }
 
     fn good(&mut self, rng: &mut Rng) {
-        let (width, height) = (1 + rng.below(5), 1 + rng.below(4));
+        let (width, height) = sizes::small(rng);
         self.good_of(rng, width, height);
     }
 
     /// A sheet of one cell, whose number may be any.
     pub fn one_cell(&mut self, kind: u64, number: u64) {
-        self.numbers.clear();
-        self.numbers.extend([1, kind, 1, 1, number].map(|value| Number { value, padding: 0 }));
-        self.out_len = 1;
-        self.encode();
+        let mut bytes = Vec::new();
+        for number in [1, kind, 1, 1, number] {
+            format::push_number(number, &mut bytes);
+        }
+        (self.bytes, self.out_len) = (Bytes::new(bytes), 1);
     }
 
     /// The bytes of the numbers, all of them lent.
-    fn encode(&mut self) {
-        self.bytes.clear();
+    fn encode(&mut self, _: &mut Rng) {
+        let mut bytes = Vec::new();
         for number in &self.numbers {
-            format::push_number(number.value, &mut self.bytes);
+            format::push_number(number.value, &mut bytes);
             for _ in 0..number.padding {
-                *self.bytes.last_mut().expect("a number has a group") |= 0x80;
-                self.bytes.push(0);
+                *bytes.last_mut().expect("a number has a group") |= 0x80;
+                bytes.push(0);
             }
         }
-        self.len = self.bytes.len();
+        self.bytes = Bytes::new(bytes);
     }
 
     /// Where a number is to be made wrong: each of the head's as often as the cells together.
@@ -148,81 +142,35 @@ impl Reading {
         self.numbers[at].value = no_cell(rng, self.numbers[1].value);
     }
 
-    /// Some bytes are not lent any more; they stay behind those that are.
-    fn cut(&mut self, rng: &mut Rng) {
-        let most = rng.pick(&[2, 6, self.len.max(1)]).min(self.len.max(1));
-        self.len -= (1 + rng.below(most)).min(self.len);
-    }
-
-    fn flip(&mut self, rng: &mut Rng) {
-        for _ in 0..rng.pick(&[1, 1, 2, 3, 8]) {
-            if self.len > 0 {
-                let at = rng.below(self.len);
-                self.bytes[at] ^= 1 << rng.below(8);
-            }
-        }
-    }
-
-    fn insert_or_remove(&mut self, rng: &mut Rng) {
-        let at = rng.below(self.len + 1);
-        if rng.one_in(2) || at == self.len {
-            self.bytes.insert(at, stray_byte(rng));
-            self.len += 1;
-        } else {
-            self.bytes.remove(at);
-            self.len -= 1;
-        }
-    }
-
-    fn left_over(&mut self, rng: &mut Rng) {
-        self.bytes.truncate(self.len);
-        for _ in 0..rng.pick(&[1, 1, 1, 2, 5]) {
-            self.bytes.push(stray_byte(rng));
-        }
-        self.len = self.bytes.len();
-    }
-
-    fn spoil_output(&mut self, rng: &mut Rng) {
-        let fits = self.out_len;
-        self.out_len = rng.pick(&[fits + 1, fits.saturating_sub(1), 0, 2 * fits, self.len]);
-    }
-
     /// Bytes that were never a sheet: any, ones that numbers turn on, and either behind a head.
     fn random(&mut self, rng: &mut Rng) {
-        self.bytes.clear();
+        let mut bytes = Vec::new();
         let n = rng.below(24);
         self.out_len = 1 + rng.below(12);
         if rng.one_in(2) {
             let (kind, width, height) = (rng.below(2) as u8, 1 + rng.below(3) as u8, 1 + rng.below(3) as u8);
-            self.bytes.extend([1, kind, width, height]);
+            bytes.extend([1, kind, width, height]);
             self.out_len = usize::from(width * height);
         }
         let any = rng.one_in(2);
+        let turns = [0, 1, 1, 2, 3, 0x10, 0x7F, 0x80, 0x81, 0xFF];
         for _ in 0..n {
-            let byte = if any { rng.next() as u8 } else { rng.pick(&[0, 1, 1, 2, 3, 0x10, 0x7F, 0x80, 0x81, 0xFF]) };
-            self.bytes.push(byte);
+            bytes.push(if any { rng.next() as u8 } else { rng.pick(&turns) });
         }
-        self.len = self.bytes.len();
+        self.bytes = Bytes::new(bytes);
     }
 
     /// Sheets that say a large size: most with few cells behind it, a few with as many as they say.
     fn large(&mut self, rng: &mut Rng) {
         let long = rng.pick(&[127, 128, 1000, 2047, 2048]);
         if rng.one_in(50) {
-            let short = rng.pick(&[1, 1, 2]);
-            let (width, height) = rng.pick(&[(long, short), (short, long)]);
+            let (width, height) = sizes::narrow(rng, long);
             self.good_of(rng, width, height);
             if rng.one_in(2) {
                 self.spoil_cell(rng);
             }
-            self.encode();
-            match rng.below(6) {
-                0 => self.cut(rng),
-                1 => self.left_over(rng),
-                2 => self.spoil_output(rng),
-                _ => {}
-            }
-            return;
+            self.encode(rng);
+            return self.spoil_length(rng);
         }
         self.good(rng);
         let other = rng.pick(&[1, 2, 3, 128, 2047, 2048]);
@@ -233,7 +181,7 @@ impl Reading {
         }
         // as many cells as the sheet says where they are few enough for a run, else some: none of them may change
         self.out_len = if width * height <= 4096 && rng.one_in(8) { width * height } else { rng.below(40) };
-        self.encode();
+        self.encode(rng);
     }
 
     fn spoil_version_or_kind(&mut self, rng: &mut Rng) {
@@ -245,54 +193,39 @@ impl Reading {
             Self::spoil_form, Self::spoil_width, Self::spoil_version, Self::spoil_kind, Self::spoil_size, Self::spoil_cell,
         ];
         for _ in 0..1 + rng.below(2) {
-            faults[rng.below(faults.len())](self, rng);
+            take_one(&faults, self, rng);
         }
     }
 
-    fn byte_fault(&mut self, rng: &mut Rng) {
-        let faults = [Self::cut, Self::flip, Self::insert_or_remove, Self::left_over, Self::spoil_output];
-        faults[rng.below(faults.len())](self, rng);
-    }
-
-    /// The next input by a recipe, and the recipe's name.
-    pub fn next(&mut self, rng: &mut Rng) -> &'static str {
-        match rng.below(RECIPES.len() + 2) {
-            0 => {
-                self.random(rng);
-                "random bytes"
-            }
-            1 => {
-                self.large(rng);
-                "sheets of a large size, most with few cells"
-            }
-            recipe => {
-                let (name, of_numbers, of_bytes) = RECIPES[recipe - 2];
-                self.good(rng);
-                of_numbers(self, rng);
-                self.encode();
-                of_bytes(self, rng);
-                name
-            }
-        }
-    }
+    /// Most make something wrong with a good sheet: before its numbers become bytes, or after.
+    pub const RECIPES: [Recipe<Self>; 14] = [
+        ("random bytes", &[Self::random]),
+        ("sheets of a large size, most with few cells", &[Self::large]),
+        ("sheets", &[Self::good, Self::encode]),
+        ("sheets with a number that is not in its shortest form", &[Self::good, Self::spoil_form, Self::encode]),
+        ("sheets with a number over 32 bits or over five groups", &[Self::good, Self::spoil_width, Self::encode]),
+        ("sheets of another version or kind", &[Self::good, Self::spoil_version_or_kind, Self::encode]),
+        ("sheets of another size", &[Self::good, Self::spoil_size, Self::encode]),
+        ("sheets with a number that no cell has", &[Self::good, Self::spoil_cell, Self::encode]),
+        ("sheets cut", &[Self::good, Self::encode, Self::cut]),
+        ("sheets with bits flipped", &[Self::good, Self::encode, Self::flip]),
+        ("sheets with a byte too many or too few", &[Self::good, Self::encode, Self::insert_or_remove]),
+        ("sheets with bytes left over", &[Self::good, Self::encode, Self::left_over]),
+        ("sheets with an output that does not fit", &[Self::good, Self::encode, Self::spoil_output]),
+        ("sheets with two faults or three", &[Self::good, Self::number_faults, Self::encode, Self::byte_fault]),
+    ];
 }
 
-type Fault = fn(&mut Reading, &mut Rng);
+impl Spoilt for Reading {
+    const TURNS: &'static [u8] = &[0, 1, 0x7F, 0x80, 0xFF];
+    const LEFT_OVER: &'static [usize] = &[1, 1, 1, 2, 5];
 
-fn none(_: &mut Reading, _: &mut Rng) {}
+    fn bytes(&mut self) -> &mut Bytes {
+        &mut self.bytes
+    }
 
-/// What is made wrong with a good sheet: before its numbers become bytes, and after.
-const RECIPES: [(&str, Fault, Fault); 12] = [
-    ("sheets", none, none),
-    ("sheets with a number that is not in its shortest form", Reading::spoil_form, none),
-    ("sheets with a number over 32 bits or over five groups", Reading::spoil_width, none),
-    ("sheets of another version or kind", Reading::spoil_version_or_kind, none),
-    ("sheets of another size", Reading::spoil_size, none),
-    ("sheets with a number that no cell has", Reading::spoil_cell, none),
-    ("sheets cut", none, Reading::cut),
-    ("sheets with bits flipped", none, Reading::flip),
-    ("sheets with a byte too many or too few", none, Reading::insert_or_remove),
-    ("sheets with bytes left over", none, Reading::left_over),
-    ("sheets with an output that does not fit", none, Reading::spoil_output),
-    ("sheets with two faults or three", Reading::number_faults, Reading::byte_fault),
-];
+    fn spoil_output(&mut self, rng: &mut Rng) {
+        let fits = self.out_len;
+        self.out_len = rng.pick(&[fits + 1, fits.saturating_sub(1), 0, 2 * fits, self.bytes.lent().len()]);
+    }
+}
