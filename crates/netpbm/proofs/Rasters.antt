@@ -121,10 +121,10 @@ module _ (o : Order) (w h : ℕ) (s : List ℕ) (old : List Float) where
     part-size : 0 < y → length old ≡ w * h → length (take (from + w - from) (drop from new)) ≡ w
     part-size some wide = part-long from w new (omega (arith, rows-room some .passed, f .place, f .long))
 
-    -- and its bytes are four for a cell
-    pub rows-lent : 0 < y → length old ≡ w * h → length s ≡ 4 * (w * h)
-        → length (take (4 * ((y - 1) * w) + 4 * w - 4 * ((y - 1) * w)) (drop (4 * ((y - 1) * w)) s)) ≡ 4 * length (take (from + w - from) (drop from new))
-    rows-lent some wide deep = rw (part-size some wide) (part-long (4 * ((y - 1) * w)) (4 * w) s (omega (arith, rows-room some .next)))
+    -- and a part of the bytes with a row has four for a cell
+    pub rows-lent : 0 < y → length old ≡ w * h → (at : ℕ) → at + 4 * w ≤ length s
+        → length (take (at + 4 * w - at) (drop at s)) ≡ 4 * length (take (from + w - from) (drop from new))
+    rows-lent some wide at inside = rw (part-size some wide) (part-long at (4 * w) s inside)
 
     -- one row more
     pub rows-more : (part : List Float) → 0 < y → length old ≡ w * h → length s ≡ 4 * (w * h)

@@ -64,7 +64,7 @@ part-fill-row-end-2 c = omega (arith, room (c .before))
 fill-row-requires : tie.Need-fill-row-requires Inv-loop μ-loop
 fill-row-requires c κs =
     let d = c .before .before in
-    rows-lent _ _ _ _ _ _ _ _ (d .before .loop .inv) (d .loop-test .taken) (start d .pre .0) (start d .pre .1)
+    rows-lent _ _ _ _ _ _ _ _ (d .before .loop .inv) (d .loop-test .taken) (start d .pre .0) _ (omega (arith, room d, start d .pre .1))
 
 add-from : tie.Need-add-from Inv-loop μ-loop
 add-from c = omega (arith, room (c .before .before .before .before .before))
