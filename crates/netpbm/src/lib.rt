@@ -1,4 +1,5 @@
-// PGM pictures read, PFM maps written and read: slices in, slices out.
+// Pictures and maps of other shops: PGM read, PFM written and read, slices in and slices out. `header` and `scale` have the parts of a
+// header, `order` the four bytes of a cell, `raster` a size judged with its bytes; `pgm`, `writing` and `pfm` have the calls.
 pub mod header;
 pub mod order;
 pub mod pfm;

@@ -5,7 +5,7 @@ use plombrisa::{
     Map, Refusal, pfm_length_in, pfm_size_in, pgm_size_in, read_pfm, read_pfm_in, read_pgm, read_pgm_in, write_pfm, write_pfm_in,
 };
 use runs::maps::MadeMap;
-use runs::room::Room;
+use runs::room::{Cell, Room};
 use runs::same::{equal, same_bytes, same_cells};
 
 /// What a lent number holds before a call: no count and no side.
@@ -43,6 +43,38 @@ fn blanked(cell: f32) -> f32 {
     if cell.is_finite() { cell } else { f32::NAN }
 }
 
+/// The calls that read one of the formats, and how its cells are compared.
+struct Calls<T> {
+    size_in: fn(&[u8], &mut u64, &mut u64) -> Result<(), Refusal>,
+    read_in: fn(&[u8], &mut [T], &mut u64, &mut u64) -> Result<(), Refusal>,
+    same: fn(&str, &[T], &[T]) -> Result<(), String>,
+}
+
+const PGM: Calls<u8> = Calls { size_in: pgm_size_in, read_in: read_pgm_in, same: same_bytes };
+const PFM: Calls<f32> = Calls { size_in: pfm_size_in, read_in: read_pfm_in, same: same_cells };
+
+impl<T: Cell> Calls<T> {
+    /// A file's size, and the file read into what is lent, beside what was found in it. What reading should answer.
+    fn check(
+        &self, input: &Reading, found: Result<Size, u32>, cells: &[T], room: &mut Room<T>,
+    ) -> Result<Result<Size, u32>, String> {
+        let file = input.bytes.lent();
+        let [mut width, mut height] = WAS;
+        let answer = (self.size_in)(file, &mut width, &mut height);
+        answered("size", &answer, [width, height], found)?;
+
+        let should = with_output(found, input.out_len);
+        [width, height] = WAS;
+        let answer = (self.read_in)(file, room.lend(input.out_len), &mut width, &mut height);
+        answered("reading", &answer, [width, height], should)?;
+        if should.is_ok() {
+            (self.same)("what was read", room.lent(), cells)?;
+        }
+        room.unchanged_but(should.map_or(0, |size| size.area()))?;
+        Ok(should)
+    }
+}
+
 impl Both {
     pub fn new() -> Self {
         Self { levels: Vec::new(), cells: Vec::new(), file: Vec::new(), cells_room: Room::new(), bytes_room: Room::new() }
@@ -52,19 +84,7 @@ impl Both {
     pub fn check_pgm(&mut self, input: &Reading) -> Result<u32, String> {
         let file = input.bytes.lent();
         let found = format::read_pgm(file, &mut self.levels);
-        let [mut width, mut height] = WAS;
-        let answer = pgm_size_in(file, &mut width, &mut height);
-        answered("size", &answer, [width, height], found)?;
-
-        let should = with_output(found, input.out_len);
-        [width, height] = WAS;
-        let answer = read_pgm_in(file, self.bytes_room.lend(input.out_len), &mut width, &mut height);
-        answered("reading", &answer, [width, height], should)?;
-        if should.is_ok() {
-            same_bytes("levels read", self.bytes_room.lent(), &self.levels)?;
-        }
-        self.bytes_room.unchanged_but(should.map_or(0, |size| size.area()))?;
-
+        let should = PGM.check(input, found, &self.levels, &mut self.bytes_room)?;
         let owned = read_pgm(file);
         equal("answer of the reading that lends its own", number_of(&owned), found.err().unwrap_or(0))?;
         if let (Ok(picture), Ok(size)) = (owned, found) {
@@ -79,19 +99,7 @@ impl Both {
     pub fn check_pfm(&mut self, input: &Reading) -> Result<u32, String> {
         let file = input.bytes.lent();
         let found = format::read_pfm(file, &mut self.cells);
-        let [mut width, mut height] = WAS;
-        let answer = pfm_size_in(file, &mut width, &mut height);
-        answered("size", &answer, [width, height], found)?;
-
-        let should = with_output(found, input.out_len);
-        [width, height] = WAS;
-        let answer = read_pfm_in(file, self.cells_room.lend(input.out_len), &mut width, &mut height);
-        answered("reading", &answer, [width, height], should)?;
-        if should.is_ok() {
-            same_cells("cells read", self.cells_room.lent(), &self.cells)?;
-        }
-        self.cells_room.unchanged_but(should.map_or(0, |size| size.area()))?;
-
+        let should = PFM.check(input, found, &self.cells, &mut self.cells_room)?;
         let owned = read_pfm(file);
         equal("answer of the reading that lends its own", number_of(&owned), found.err().unwrap_or(0))?;
         if let (Ok(map), Ok(size)) = (owned, found) {
