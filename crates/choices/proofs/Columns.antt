@@ -47,7 +47,7 @@ value-finite (fin t m e) s a c v = tt
 pub column-number : (x : ℕ) (d : Float) → x ≤ 2 ^ 24 → T (finite d) → T (not (isNan (column x d)))
 unfolding ofInt
 column-number x d h t =
-    away-no-nan _ (sub-number binary32 _ d (value-finite (round binary32 false x 1) false x 1 (round-whole binary32 false x h)) t)
+    away-no-nan binary32 _ (sub-number binary32 _ d (value-finite (round binary32 false x 1) false x 1 (round-whole binary32 false x h)) t)
 
 -- ---- inside the row
 

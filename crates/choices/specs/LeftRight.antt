@@ -15,7 +15,7 @@ use Rattle.maps.specs.Cells.{cellOf}
 
 -- xr = round(x - d)
 abbrev pub column : ℕ → Float → Float
-column x d = roundedAway (sub binary32 (ofInt binary32 (pos x)) d)
+column x d = roundedAway binary32 (sub binary32 (ofInt binary32 (pos x)) d)
 
 -- xr < 0 or xr ≥ w; minus zero is not below zero
 abbrev pub outside : ℕ → Float → Bool

@@ -21,11 +21,11 @@ use Rattle.options.specs.declared.RawCost.{RawCost}
 use Rattle.options.specs.declared.RawCost.the-variants.{Blank, Corr}
 use Rattle.options.specs.declared.Side.{Side}
 use Rattle.options.specs.declared.Side.the-variants.{Left, Right}
-use Rattle.windows.specs.Sums.{sumTo}
+use Rattle.lists.specs.Sums.{sumTo}
 use Rattle.windows.specs.Table.{squareAt, crossAt}
 use Rattle.windows.specs.Window.{windowSum, Inside}
 use Rattle.windows.specs.Moments.{covOf, varOf, covarianceOf}
-use Rattle.windows.proofs.Sums.{sumTo-same}
+use Rattle.lists.proofs.Sums.{sumTo-same}
 use Rattle.windows.proofs.Cauchy.{cauchy}
 use Rattle.windows.proofs.Flat.{pixel, count, window-var, window-cov}
 use Rattle.lists.specs.Lists.{listOf}

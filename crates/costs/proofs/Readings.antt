@@ -10,7 +10,7 @@ use lib.ListN.{length, getD, length-append, List·getD-append}
 use lib.Seq.{getD-append-add}
 use Rattle.options.specs.Limits.{sideMost, blockMost}
 use Rattle.lists.specs.Rows.{levelAt}
-use Rattle.windows.specs.Sums.{sumTo}
+use Rattle.lists.specs.Sums.{sumTo}
 use Rattle.windows.specs.Table.{tableOf, squareAt, crossAt}
 use Rattle.windows.specs.Window.{windowSum, Inside, cells, TableFrom, cornerAt}
 use Rattle.windows.specs.Moments.{varianceOf}

@@ -5,6 +5,7 @@ pub mod Walks
 pub mod Clearing
 pub mod Copying
 pub mod Rows
+pub mod Sums
 pub mod Stores
 pub mod Stepwise
 pub mod Writes

@@ -1,6 +1,7 @@
 -- The words that several crates use of lists.
 pub mod Lists
 pub mod Rows
+pub mod Sums
 pub mod Stores
 pub mod Steps
 pub mod Writes

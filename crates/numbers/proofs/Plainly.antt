@@ -28,12 +28,12 @@ unfolding fits
 sized-fits f s zero e p = p
 sized-fits f s (suc m) e p = p
 
-pub at-zero : (x : Float) → T (fits binary32 x) → eq x (fin false 0 (pos 0)) ≡ true → fin false 0 (pos 0) ≡ magnitudeOf x
+pub at-zero : (f : Format) (x : Float) → T (fits f x) → eq x (fin false 0 (pos 0)) ≡ true → fin false 0 (pos 0) ≡ magnitudeOf x
 unfolding eq magnitudeOf
-at-zero nan p h = absurd (false≢true h)
-at-zero (inf s) p h = absurd (false≢true h)
-at-zero (fin s m e) p h =
-    whole-unique binary32 (fin false 0 (pos 0)) (fin false m e) false 0 (unfold fits in tt) (sized-fits binary32 s m e p) (refl, refl)
+at-zero f nan p h = absurd (false≢true h)
+at-zero f (inf s) p h = absurd (false≢true h)
+at-zero f (fin s m e) p h =
+    whole-unique f (fin false 0 (pos 0)) (fin false m e) false 0 (unfold fits in tt) (sized-fits f s m e p) (refl, refl)
     (refl, eqb→eq (m * up e * 1) (0 * 1 * down e) (and-l (eqb (m * up e * 1) (0 * 1 * down e)) (Bool·beq s false || eqb (m * up e * 1) 0) (subst T (sym h) tt)))
 
 pub above-zero : (x : Float) → lt x (fin false 0 (pos 0)) ≡ false → eq x (fin false 0 (pos 0)) ≡ false → x ≡ magnitudeOf x

@@ -17,7 +17,7 @@ use Rattle.lists.specs.Rows.{rowOf}
 use Rattle.options.specs.declared.BlockMatchOptions.{BlockMatchOptions}
 use Rattle.options.specs.Options.{defaultOptions}
 use Rattle.refusals.specs.Refusals.{firstOf, pictureRows, searchRows, penaltyRows, lentRows, table, refusal}
-use Rattle.windows.specs.Sums.{sumTo, sumRect}
+use Rattle.lists.specs.Sums.{sumTo, sumRect}
 use Rattle.windows.specs.Window.{windowSum}
 use Rattle.costs.specs.Raw.{rawCost, shiftedCost, targetCost, pairCost, oneLevel, windowVar, windowCov, correlation}
 use Rattle.costs.specs.Volume.{rawVolume}

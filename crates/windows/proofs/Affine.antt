@@ -5,7 +5,7 @@ use native.Mathlib.Nat.{one-mul}
 use native.Mathlib.Omega.{arith}
 use lib.IntN.{ℤ, pos, negsuc, negℤ, _*ℤ_}
 use Rattle.windows.specs.Moments.{varOf, covOf}
-use Rattle.windows.proofs.Sums.{sumTo-same}
+use Rattle.lists.proofs.Sums.{sumTo-same}
 use Rattle.windows.proofs.Laws.{var-affine}
 use Rattle.windows.proofs.Cauchy.{cov-affine}
 

@@ -4,8 +4,8 @@ use mathlib.Core.Path.{_≡_}
 use native.Mathlib.Nat.{mul-le-mul, le-trans}
 use native.Mathlib.Omega.{arith}
 use Rattle.options.specs.Limits.{sideMost}
-use Rattle.windows.specs.Sums.{sumTo, sumRect}
-use Rattle.windows.proofs.Sums.{sumTo-bound}
+use Rattle.lists.specs.Sums.{sumTo, sumRect}
+use Rattle.lists.proofs.Sums.{sumTo-bound}
 use Rattle.windows.proofs.Tables.{sumRect-bound}
 
 -- the two terms of a covariance, and with b the same as a those of a variance; the sums themselves are smaller

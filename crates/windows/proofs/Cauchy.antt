@@ -8,9 +8,9 @@ use native.Mathlib.Omega.{arith}
 use borrow.Author.Tests.{lt-ltb, le-ltb}
 use lib.IntN.{ℤ, pos, negsuc, natAbs, negℤ, subℕ, _-ℤ_, _*ℤ_, zero-*ℤ}
 use Rattle.lists.proofs.Tests.{lt-or-le}
-use Rattle.windows.specs.Sums.{sumTo}
+use Rattle.lists.specs.Sums.{sumTo}
 use Rattle.windows.specs.Moments.{varianceOf, covarianceOf, varOf, covOf}
-use Rattle.windows.proofs.Sums.{sumTo-same, sumTo-plus, sumTo-scale, sumTo-const, sumTo-member}
+use Rattle.lists.proofs.Sums.{sumTo-same, sumTo-plus, sumTo-scale, sumTo-const, sumTo-member}
 use Rattle.windows.proofs.Laws.{dist, var-not-cut, var-reflected}
 
 -- (x + y)² = x² + 2xy + y²

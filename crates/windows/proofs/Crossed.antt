@@ -8,10 +8,10 @@ use lib.IntN.{ℤ}
 use lib.ListN.{length, take, drop, length-drop}
 use lib.Seq.{length-take-le, getD-take, getD-drop}
 use Rattle.windows.specs.declared.Overlap.{Overlap}
-use Rattle.windows.specs.Sums.{sumTo}
+use Rattle.lists.specs.Sums.{sumTo}
 use Rattle.windows.specs.Table.{RowReady, nextRow, levelIn, crossIn}
 use Rattle.windows.specs.Parts.{Columns, productIn, sumsBelow}
-use Rattle.windows.proofs.Sums.{sumTo-same, sumTo-const, sumTo-split, sumTo-bound}
+use Rattle.lists.proofs.Sums.{sumTo-same, sumTo-const, sumTo-split, sumTo-bound}
 use Rattle.windows.proofs.Parts.{rowTo, to-start, to-next, to-ready, to-done}
 use Rattle.windows.proofs.Shifts.{Meets}
 

@@ -10,13 +10,13 @@ use lib.ListN.{getD}
 use lib.IntN.{ℤ, pos, negsuc, natAbs, _+ℤ_, pos-ne-negsuc}
 use Rattle.lists.proofs.Tests.{lt-or-le}
 use Rattle.lists.specs.Rows.{levelAt, rowOf}
-use Rattle.windows.specs.Sums.{sumTo, sumRect}
+use Rattle.lists.specs.Sums.{sumTo, sumRect}
 use Rattle.windows.specs.Table.{levelIn, squareAt, columnAt, crossAt}
 use Rattle.windows.specs.Window.{windowSum}
 use Rattle.windows.specs.Moments.{varianceOf, covarianceOf, varOf, covOf}
 use Rattle.windows.proofs.Bounds.{Below53, window-fits}
 use Rattle.windows.proofs.Tables.{level-small}
-use Rattle.windows.proofs.Sums.{sumTo-same, sumTo-split}
+use Rattle.lists.proofs.Sums.{sumTo-same, sumTo-split}
 
 -- a sum over rows of w columns, pixel by pixel
 sumRect-flat : (w h : ℕ) (f : ℕ → ℕ → ℕ) → 0 < w → sumRect w h f ≡ sumTo (h * w) (λ k. f (k % w) (k / w))

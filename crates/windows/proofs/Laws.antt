@@ -7,9 +7,9 @@ use native.Mathlib.Nat.{le-of-eq, le-trans, mul-lt-mul-of-pos-left, mul-lt-mul-o
 use native.Mathlib.Omega.{arith}
 use lib.IntN.{ℤ, pos, negsuc, natAbs, negℤ, subℕ, _-ℤ_, _*ℤ_}
 use Rattle.lists.proofs.Tests.{lt-or-le}
-use Rattle.windows.specs.Sums.{sumTo}
+use Rattle.lists.specs.Sums.{sumTo}
 use Rattle.windows.specs.Moments.{varianceOf, covarianceOf, varOf, covOf}
-use Rattle.windows.proofs.Sums.{sumTo-same, sumTo-plus, sumTo-scale, sumTo-const, sumTo-member, sumTo-bound}
+use Rattle.lists.proofs.Sums.{sumTo-same, sumTo-plus, sumTo-scale, sumTo-const, sumTo-member, sumTo-bound}
 
 -- how far two numbers are apart
 abbrev pub dist : ℕ → ℕ → ℕ

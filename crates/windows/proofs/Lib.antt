@@ -1,5 +1,4 @@
 -- Lemmas that belong to no one function.
-pub mod Sums
 pub mod Rows
 pub mod Tables
 pub mod Windows

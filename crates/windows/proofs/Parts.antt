@@ -9,10 +9,10 @@ use lib.ListN.{length, getD, take, drop, set, length-append, length-drop, List·
 use lib.Seq.{length-take-le, getD-take, take-at, drop-at, drop-drop}
 use Rattle.lists.proofs.Lists.{listOf-length, listOf-same, listOf-split}
 use Rattle.lists.specs.Lists.{listOf}
-use Rattle.windows.specs.Sums.{sumTo}
+use Rattle.lists.specs.Sums.{sumTo}
 use Rattle.windows.specs.Table.{RowReady, nextRow}
 use Rattle.windows.specs.Parts.{productIn, Columns, sumsBelow}
-use Rattle.windows.proofs.Sums.{sumTo-bound}
+use Rattle.lists.proofs.Sums.{sumTo-bound}
 use Rattle.windows.proofs.Rows.{store-next}
 
 -- ---- one part: the loop over its columns

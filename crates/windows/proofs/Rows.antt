@@ -9,9 +9,9 @@ use lib.ListN.{length, getD, take, drop, set, length-append, length-set, length-
 use lib.Seq.{length-take-le, getD-take, drop-cons, set-at}
 use Rattle.lists.proofs.Lists.{listOf-length, listOf-snoc}
 use Rattle.lists.specs.Lists.{listOf}
-use Rattle.windows.specs.Sums.{sumTo}
+use Rattle.lists.specs.Sums.{sumTo}
 use Rattle.windows.specs.Table.{RowReady, nextRow}
-use Rattle.windows.proofs.Sums.{sumTo-bound}
+use Rattle.lists.proofs.Sums.{sumTo-bound}
 
 -- a store of the next value: after `p` and the first n values of g, with the rest of `d`, at the place k that follows them
 pub store-next : (p d : List ℕ) (g : ℕ → ℕ) (n k v : ℕ) → length p + n ≡ k → k < length d → v ≡ g n

@@ -15,9 +15,9 @@ use Rattle.lists.proofs.Rows.{row-at}
 use Rattle.lists.proofs.Lists.{listOf-length, listOf-at, listOf-same, listOf-const}
 use Rattle.lists.specs.Lists.{listOf}
 use Rattle.lists.specs.Rows.{levelAt, rowOf}
-use Rattle.windows.specs.Sums.{sumTo, sumRect}
+use Rattle.lists.specs.Sums.{sumTo, sumRect}
 use Rattle.windows.specs.Table.{Sizes, RowReady, nextRow, tableRows, tableOf}
-use Rattle.windows.proofs.Sums.{sumTo-same, sumTo-bound}
+use Rattle.lists.proofs.Sums.{sumTo-same, sumTo-bound}
 
 -- what the code lends: rows y and y + 1 of the table, and row y of the picture
 abbrev pub lentRows : ℕ → ℕ → List ℕ → List ℕ

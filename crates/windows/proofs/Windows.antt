@@ -10,10 +10,10 @@ use lib.ListN.{length, getD, List·getD-append}
 use lib.Seq.{getD-append-add}
 use Rattle.lists.proofs.Lists.{listOf-at}
 use Rattle.lists.specs.Lists.{listOf}
-use Rattle.windows.specs.Sums.{sumTo, sumRect}
+use Rattle.lists.specs.Sums.{sumTo, sumRect}
 use Rattle.windows.specs.Table.{tableRows, tableOf}
 use Rattle.windows.specs.Window.{windowSum, Inside}
-use Rattle.windows.proofs.Sums.{sumTo-same, sumTo-plus, sumTo-split}
+use Rattle.lists.proofs.Sums.{sumTo-same, sumTo-plus, sumTo-split}
 use Rattle.windows.proofs.Tables.{length-rows}
 
 -- cell x of row y of the first n rows

@@ -7,7 +7,7 @@ use lib.ListN.{length, getD, take, drop}
 use Rattle.options.specs.Limits.{sideMost}
 use Rattle.lists.specs.Lists.{listOf}
 use Rattle.lists.specs.Rows.{rowOf, levelAt}
-use Rattle.windows.specs.Sums.{sumTo, sumRect}
+use Rattle.lists.specs.Sums.{sumTo, sumRect}
 
 -- the sizes of a picture and of its table
 pub record Sizes (w h : ℕ) (table pic : List ℕ) : Type 0 where

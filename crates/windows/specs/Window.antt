@@ -3,7 +3,7 @@ use Prim.Native.Nat.{ℕ, _+_, _*_, _-_, _≤_, _<_}
 use mathlib.Core.Path.{_≡_}
 use mathlib.Core.List.{List}
 use lib.ListN.{length, getD}
-use Rattle.windows.specs.Sums.{sumRect}
+use Rattle.lists.specs.Sums.{sumRect}
 use Rattle.windows.specs.Table.{tableOf}
 
 -- the sum of f over the window of (2r + 1)² pixels centred at (x, y)

@@ -7,7 +7,7 @@ ghost use lib.ListN.{length, getD, set};
 ghost use Rattle.options.specs.Limits.{sideMost, shiftMost};
 ghost use Rattle.lists.specs.Rows.{levelAt};
 ghost use Rattle.windows.specs.Table.{Sizes, RowReady, nextRow, tableOf, levelIn, squareAt, crossIn, crossAt};
-ghost use Rattle.windows.specs.Sums.{sumTo};
+ghost use Rattle.lists.specs.Sums.{sumTo};
 ghost use Rattle.windows.specs.Parts.{overlapOf, productIn, Columns, sumsBelow};
 ghost use Rattle.windows.specs.Window.{cornerSum, Corners};
 ghost use Rattle.windows.specs.Moments.{varianceOf};

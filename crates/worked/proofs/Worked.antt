@@ -6,7 +6,7 @@ use Rattle.numbers.specs.Narrow.{narrowed}
 use Rattle.numbers.specs.Away.{roundedAway}
 use Rattle.numbers.specs.Plain.{magnitudeOf}
 use Rattle.lists.specs.Lists.{listOf, allBelow, walk}
-use Rattle.windows.specs.Sums.{sumTo, sumRect}
+use Rattle.lists.specs.Sums.{sumTo, sumRect}
 use Rattle.windows.specs.Window.{windowSum}
 use Rattle.costs.specs.Raw.{rawCost, shiftedCost, targetCost, pairCost, oneLevel, windowVar, windowCov, correlation}
 use Rattle.costs.specs.Volume.{rawVolume}

@@ -43,10 +43,10 @@ pub record Examples : Type 0 where
   pub p4 : narrowed (fin false (2 ^ 24 + 1) (negsuc 23)) ≡ plainOne
   pub p5 : narrowed (fin false (2 ^ 24 + 3) (negsuc 23)) ≡ fin false (2 ^ 22 + 1) (negsuc 21)
   -- round -0.5 is -1, round 2.5 is 3
-  pub p6 : roundedAway (fin true 1 (negsuc 0)) ≡ fin true 1 (pos 0)
-  pub p7 : roundedAway (fin false 5 (negsuc 0)) ≡ plainThree
+  pub p6 : roundedAway binary32 (fin true 1 (negsuc 0)) ≡ fin true 1 (pos 0)
+  pub p7 : roundedAway binary32 (fin false 5 (negsuc 0)) ≡ plainThree
   -- round -0.25 is minus zero, so with d 0.25 at x = 0 the left-right test looks up column 0, which even a row of one pixel has
-  pub p8 : roundedAway (fin true 1 (negsuc 1)) ≡ minusZero
+  pub p8 : roundedAway binary32 (fin true 1 (negsuc 1)) ≡ minusZero
   pub p8-xr : column 0 quarter ≡ minusZero
   pub p8-inside : outside 1 (column 0 quarter) ≡ false
   pub p8-column : toUnsigned 64 (column 0 quarter) ≡ 0

@@ -5,7 +5,7 @@ use native.Mathlib.Nat.{le-antisymm}
 use native.Mathlib.Omega.{arith}
 use borrow.Author.Needs.{needs}
 use lib.ListN.{length}
-use Rattle.windows.specs.Sums.{sumTo}
+use Rattle.lists.specs.Sums.{sumTo}
 use Rattle.windows.specs.Parts.{productIn, sumsBelow}
 use Rattle.windows.proofs.Parts.{below-start, below-length, below-put, below-next, below-end, products-most, product-most, sum-next}
 use Rattle.windows.proofs.add_products.Statement.{statement}

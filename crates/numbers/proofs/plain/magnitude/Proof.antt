@@ -1,5 +1,5 @@
 -- `numbers::plain::magnitude` meets its contract. Assumes nothing.
-use lib.Ieee.{ofBits}
+use lib.Ieee.{binary32, ofBits}
 use borrow.Author.Needs.{needs}
 use Rattle.numbers.proofs.Plainly.{below-zero, at-zero, above-zero}
 use Rattle.numbers.proofs.plain.magnitude.Statement.{statement}
@@ -11,7 +11,7 @@ returns c = below-zero (c .before .args .x) (c .if1 .taken)
 
 returns-2 : tie.Need-returns-2
 unfolding ofBits
-returns-2 c = at-zero (c .before .before .args .x) (search needs) (c .if2 .taken)
+returns-2 c = at-zero binary32 (c .before .before .args .x) (search needs) (c .if2 .taken)
 
 returns-3 : tie.Need-returns-3
 unfolding ofBits

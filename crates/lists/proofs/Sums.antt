@@ -1,15 +1,10 @@
 -- Lemmas on `sumTo`. Assumes nothing.
-use Prim.Native.Nat.{ℕ, zero, suc, _+_, _*_, _-_, _≤_, _<_, zero-le}
-use mathlib.Core.Path.{_≡_, refl, sym, ap, ap₂, _∙_}
-use mathlib.Core.List.{List, [], _∷_, _++_, append-assoc}
-use mathlib.Core.Logic.{_⊎_, inl, inr, ⊎-elim}
+use Prim.Native.Nat.{ℕ, zero, suc, _+_, _*_, _≤_, _<_, zero-le}
+use mathlib.Core.Path.{_≡_, refl, sym, ap₂}
+use mathlib.Core.Logic.{⊎-elim}
 use native.Mathlib.Nat.{add-zero, add-suc, eq-or-lt-of-le, le-of-suc-le-suc, add-le-add, mul-zero, zero-mul, mul-add, suc-mul}
-use native.Mathlib.Numerals.{add-one}
-use native.Mathlib.Decide.{decLt}
 use native.Mathlib.Omega.{arith}
-use lib.ListN.{length, getD, take, drop, set, length-append, List·getD-append}
-use lib.Seq.{drop-cons, set-at, getD-at}
-use Rattle.windows.specs.Sums.{sumTo}
+use Rattle.lists.specs.Sums.{sumTo}
 
 pub sumTo-same : (n : ℕ) (f g : ℕ → ℕ) → ((i : ℕ) → i < n → f i ≡ g i) → sumTo n f ≡ sumTo n g
 unfolding sumTo
@@ -51,3 +46,9 @@ pub sumTo-bound : (m n : ℕ) (f : ℕ → ℕ) → ((i : ℕ) → i < n → f i
 unfolding sumTo
 sumTo-bound m zero f h = zero-le
 sumTo-bound m (suc n) f h = rw suc-mul (add-le-add (sumTo-bound m n f (λ i l. h i (omega arith))) (h n (omega arith)))
+
+-- greater values have a greater sum
+pub sumTo-mono : (n : ℕ) (f g : ℕ → ℕ) → ((i : ℕ) → i < n → f i ≤ g i) → sumTo n f ≤ sumTo n g
+unfolding sumTo
+sumTo-mono zero f g h = zero-le
+sumTo-mono (suc n) f g h = add-le-add (sumTo-mono n f g (λ i l. h i (omega arith))) (h n (omega arith))
