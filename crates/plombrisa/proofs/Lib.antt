@@ -1,2 +1,3 @@
 -- The theorems of the exports.
 pub mod Outcomes
+pub mod Sites

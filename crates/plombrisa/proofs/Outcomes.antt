@@ -13,7 +13,10 @@ use Rattle.lists.specs.Steps.{Or}
 use Rattle.sheets.specs.Sheet.{Sheet}
 use Rattle.netpbm.specs.declared.raster.Size.{Size}
 use Rattle.netpbm.specs.Raster.{Raster}
-use Rattle.plombrisa.specs.Answers.{RangeTold, PointTold, PointsTold, WriteTold, SaidTold, ReadTold, SizeTold, RasterTold}
+use Rattle.volume.specs.declared.site.Site.{Site}
+use Rattle.volume.specs.declared.site.Shape.{Shape}
+use Rattle.volume.specs.declared.heap.Figures.{Figures}
+use Rattle.plombrisa.specs.Answers.{RangeTold, PointTold, PointsTold, WriteTold, SaidTold, ReadTold, SizeTold, RasterTold, ShapeTold, VolumeTold}
 
 -- THEOREM: of a pixel, a reading between pixels, a number of valid cells and a cover figure: the answer and the lent number
 pub one-number : {A : Type 0} {number : ℕ} {value : A} {n m : ℕ} {v u : A} → (n ≡ number) × (v ≡ value) → (m ≡ number) × (u ≡ value) → (n ≡ m) × (v ≡ u)
@@ -60,3 +63,13 @@ pub one-raster : {A : Type 0} {raster : Or (Raster A)} {out : List A} {width hei
     → RasterTold n raster out out₁ width width₁ height height₁ → RasterTold m raster out out₂ width width₂ height height₂
     → ((n ≡ m) × (width₁ ≡ width₂) × (height₁ ≡ height₂)) × (out₁ ≡ out₂)
 one-raster x y = (one-size (x .told) (y .told), x .outs ∙ sym (y .outs))
+
+-- THEOREM: of the shape of a site's grid
+pub one-shape : {s : Shape} {columns rows n m columns₁ columns₂ rows₁ rows₂ : ℕ}
+    → ShapeTold n s columns columns₁ rows rows₁ → ShapeTold m s columns columns₂ rows rows₂ → (n ≡ m) × (columns₁ ≡ columns₂) × (rows₁ ≡ rows₂)
+one-shape x y = (x .answer ∙ sym (y .answer), x .columns ∙ sym (y .columns), x .rows ∙ sym (y .rows))
+
+-- THEOREM: of a heap's figures, and of its grid
+pub one-heap : {s : Site} {xs ys zs : List Float} {grid : List ℕ} {four : Figures} {n m : ℕ} {grid₁ grid₂ : List ℕ} {four₁ four₂ : Figures}
+    → VolumeTold n s xs ys zs grid grid₁ four four₁ → VolumeTold m s xs ys zs grid grid₂ four four₂ → (n ≡ m) × (four₁ ≡ four₂) × (grid₁ ≡ grid₂)
+one-heap x y = (x .told .answer ∙ sym (y .told .answer), x .told .figures ∙ sym (y .told .figures), x .grids ∙ sym (y .grids))

@@ -33,6 +33,13 @@ use Rattle.sheets.specs.Code.{kindNumber}
 use Rattle.sheets.specs.Sheet.{Sheet}
 use Rattle.lists.specs.Writes.{roomFor, byteCount, outAfter}
 use Rattle.sheets.specs.Outcome.{cellsFor, sizeSaid, cellsAfter}
+use Rattle.volume.specs.declared.site.Site.{Site}
+use Rattle.volume.specs.declared.site.Shape.{Shape}
+use Rattle.volume.specs.declared.site.Shape.the-variants as shape
+use Rattle.volume.specs.declared.heap.Figures.{Figures}
+use Rattle.volume.specs.declared.heap.Heap.{Heap}
+use Rattle.volume.specs.declared.heap.Heap.the-variants as heap
+use Rattle.volume.specs.Outcome.{heapOf, gridAfter}
 
 -- of a pixel: the level
 abbrev pub levelRefusal : Level → ℕ
@@ -187,3 +194,42 @@ pub record SizeTold (n : ℕ) (s : Size) (width width′ height height′ : ℕ)
 pub record RasterTold {A : Type 0} (n : ℕ) (raster : Or (Raster A)) (out out′ : List A) (width width′ height height′ : ℕ) : Type 0 where
   pub told : SizeTold n (netpbm.sizeOf (netpbm.cellsFor (length out) raster)) width width′ height height′
   pub outs : out′ ≡ netpbm.cellsAfter (netpbm.cellsFor (length out) raster) out
+
+-- of a site: the cells of a row, and the rows
+abbrev pub shapeRefusal : Shape → ℕ
+shapeRefusal (shape.Grid columns rows) = 0
+shapeRefusal (shape.Refused n) = n
+
+abbrev pub columnsAfter : Shape → ℕ → ℕ
+columnsAfter (shape.Grid columns rows) was = columns
+columnsAfter (shape.Refused n) was = was
+
+abbrev pub rowsAfter : Shape → ℕ → ℕ
+rowsAfter (shape.Grid columns rows) was = rows
+rowsAfter (shape.Refused n) was = was
+
+pub record ShapeTold (n : ℕ) (s : Shape) (column column′ row row′ : ℕ) : Type 0 where
+  pub answer : n ≡ shapeRefusal s
+  pub columns : column′ ≡ columnsAfter s column
+  pub rows : row′ ≡ rowsAfter s row
+
+-- of a heap: its four figures
+abbrev pub heapRefusal : Heap → ℕ
+heapRefusal (heap.Measured f) = 0
+heapRefusal (heap.Refused n) = n
+
+abbrev pub figuresAfter : Heap → Figures → Figures
+figuresAfter (heap.Measured f) was = f
+figuresAfter (heap.Refused n) was = was
+
+-- the four lent numbers
+abbrev pub figuresIn : ℕ → ℕ → ℕ → ℕ → Figures
+figuresIn volume inside outside empty = record { volume = volume; inside = inside; outside = outside; empty = empty }
+
+pub record HeapTold (n : ℕ) (h : Heap) (four four′ : Figures) : Type 0 where
+  pub answer : n ≡ heapRefusal h
+  pub figures : four′ ≡ figuresAfter h four
+
+pub record VolumeTold (n : ℕ) (s : Site) (xs ys zs : List Float) (grid grid′ : List ℕ) (four four′ : Figures) : Type 0 where
+  pub told : HeapTold n (heapOf s xs ys zs (length grid)) four four′
+  pub grids : grid′ ≡ gridAfter s xs ys zs grid

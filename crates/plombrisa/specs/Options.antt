@@ -8,6 +8,7 @@ use Rattle.options.specs.declared.Side.{Side}
 use Rattle.options.specs.declared.Side.the-variants.{Left, Right}
 use Rattle.options.specs.Options.{defaultOptions}
 use Rattle.points.specs.declared.Intrinsics.{Intrinsics}
+use Rattle.volume.specs.declared.site.Site.{Site}
 
 -- which picture is the reference
 abbrev pub sideOf : Bool → Side
@@ -49,3 +50,7 @@ rawOptions first count block = record {
 -- the camera's numbers and the baseline, one parameter each
 abbrev pub intrinsicsOf : Float → Float → Float → Float → Float → Intrinsics
 intrinsicsOf fx fy cx cy baseline = record { fx = fx; fy = fy; cx = cx; cy = cy; baseline = baseline }
+
+-- the rectangle, the side of a cell and the floor's depth, one parameter each
+abbrev pub siteOf : ℤ → ℤ → ℤ → ℤ → ℕ → ℤ → Site
+siteOf left right top bottom cell floor = record { left = left; right = right; top = top; bottom = bottom; cell = cell; floor = floor }

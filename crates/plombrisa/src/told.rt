@@ -1,8 +1,10 @@
 // What an answer tells a host, with what it found in the lent numbers.
 ghost use mathlib.Core.Path.{_≡_};
-ghost use Rattle.plombrisa.specs.Answers.{writtenRefusal, writtenAfter, SizeTold};
+ghost use Rattle.plombrisa.specs.Answers.{writtenRefusal, writtenAfter, SizeTold, ShapeTold, figuresIn, HeapTold};
 use lists::Written;
 use netpbm::raster::Size;
+use volume::heap::Heap;
+use volume::site::Shape;
 
 // What an answer says, with its byte count in the lent number.
 pub fn tell_bytes(answer: Written, count: &mut u64) -> u32
@@ -26,6 +28,42 @@ pub fn tell_size(answer: Size, width: &mut u64, height: &mut u64) -> u32
         Size::Is(w, h) => {
             *width = w as u64;
             *height = h as u64;
+            0
+        }
+    }
+}
+
+// What an answer says, with the cells of a row and the rows in the lent numbers.
+pub fn tell_shape(answer: Shape, columns: &mut u64, rows: &mut u64) -> u32
+    ensures { λ n. ⌜ ShapeTold n answer (now (columns .entry)) (now (columns .exit)) (now (rows .entry)) (now (rows .exit)) ⌝ }
+{
+    match answer {
+        Shape::Refused(n) => n as u32,
+        Shape::Grid(c, r) => {
+            *columns = c as u64;
+            *rows = r as u64;
+            0
+        }
+    }
+}
+
+// What an answer says, with a heap's figures in the lent numbers.
+pub fn tell_heap(
+    answer: Heap,
+    volume: &mut u64,
+    inside: &mut u64,
+    outside: &mut u64,
+    empty: &mut u64,
+) -> u32
+    ensures { λ n. ⌜ HeapTold n answer (figuresIn (now (volume .entry)) (now (inside .entry)) (now (outside .entry)) (now (empty .entry))) (figuresIn (now (volume .exit)) (now (inside .exit)) (now (outside .exit)) (now (empty .exit))) ⌝ }
+{
+    match answer {
+        Heap::Refused(n) => n as u32,
+        Heap::Measured(f) => {
+            *volume = f.volume;
+            *inside = f.inside as u64;
+            *outside = f.outside as u64;
+            *empty = f.empty as u64;
             0
         }
     }

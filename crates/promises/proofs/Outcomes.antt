@@ -3,7 +3,7 @@ use Prim.Native.Nat.{ℕ}
 use mathlib.Core.Path.{_≡_, sym, _∙_}
 use mathlib.Core.List.{List}
 use lib.ListN.{length}
-use lib.Ieee.{Float}
+use lib.Ieee.{Float, binary32, binary64}
 use Rattle.numbers.specs.Root.{rootOf}
 use Rattle.numbers.specs.Narrow.{narrowed}
 use Rattle.numbers.specs.Away.{roundedAway}
@@ -36,6 +36,10 @@ use Rattle.sheets.specs.declared.reading.Said.{Said}
 use Rattle.sheets.specs.Sheet.{sheetOf, readSheet}
 use Rattle.lists.specs.Writes.{byteCount, WriteDone}
 use Rattle.sheets.specs.Outcome.{sizeSaid, ReadDone}
+use Rattle.volume.specs.declared.site.Site.{Site}
+use Rattle.volume.specs.declared.site.Shape.{Shape}
+use Rattle.volume.specs.declared.heap.Heap.{Heap}
+use Rattle.volume.specs.Outcome.{shapeOf, heapOf, gridAfter}
 use Rattle.netpbm.specs.declared.raster.Size.{Size}
 use Rattle.netpbm.specs.Pgm.{readPgm}
 use Rattle.netpbm.specs.Pfm.{pfmOf, readPfm}
@@ -75,8 +79,11 @@ defaults o o′ = both
 pub root : (n : ℕ) (r r′ : Float) → r ≡ rootOf n → r′ ≡ rootOf n → r ≡ r′
 root n r r′ = both
 
-pub round-half-away : (x r r′ : Float) → r ≡ roundedAway x → r′ ≡ roundedAway x → r ≡ r′
+pub round-half-away : (x r r′ : Float) → r ≡ roundedAway binary32 x → r′ ≡ roundedAway binary32 x → r ≡ r′
 round-half-away x r r′ = both
+
+pub round-half-away-wide : (x r r′ : Float) → r ≡ roundedAway binary64 x → r′ ≡ roundedAway binary64 x → r ≡ r′
+round-half-away-wide x r r′ = both
 
 pub narrow : (x r r′ : Float) → r ≡ narrowed x → r′ ≡ narrowed x → r ≡ r′
 narrow x r r′ = both
@@ -159,3 +166,13 @@ pfm-size s r r′ = both
 pub read-pfm : (s : List ℕ) (out : List Float) (r r′ : Size) (out₁ out₂ : List Float)
     → netpbm.ReadDone r (readPfm s) out out₁ → netpbm.ReadDone r′ (readPfm s) out out₂ → (r ≡ r′) × (out₁ ≡ out₂)
 read-pfm s out r r′ out₁ out₂ e e′ = (both (e .answers) (e′ .answers), both (e .outs) (e′ .outs))
+
+-- a heap: the shape of its grid, and its figures, with the grid afterwards
+pub heap-shape : (s : Site) (r r′ : Shape) → r ≡ shapeOf s → r′ ≡ shapeOf s → r ≡ r′
+heap-shape s r r′ = both
+
+pub heap-volume : (s : Site) (xs ys zs : List Float) (grid : List ℕ) (r r′ : Heap) (grid₁ grid₂ : List ℕ)
+    → (r ≡ heapOf s xs ys zs (length grid)) × (grid₁ ≡ gridAfter s xs ys zs grid)
+    → (r′ ≡ heapOf s xs ys zs (length grid)) × (grid₂ ≡ gridAfter s xs ys zs grid)
+    → (r ≡ r′) × (grid₁ ≡ grid₂)
+heap-volume s xs ys zs grid r r′ grid₁ grid₂ e e′ = (both (e .0) (e′ .0), both (e .1) (e′ .1))

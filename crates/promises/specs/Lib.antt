@@ -4,3 +4,4 @@ pub mod Demand
 pub mod Answered
 pub mod Witnesses
 pub mod FileWitnesses
+pub mod HeapWitnesses

@@ -91,4 +91,16 @@ uint32_t plombrisa_pfm_size(const uint8_t *file, size_t file_len, uint64_t *widt
 uint32_t plombrisa_read_pfm(
     const uint8_t *file, size_t file_len, float *out, size_t out_len, uint64_t *width, uint64_t *height);
 
+/* A heap over a rectangle of ground, whose low edges are left and top (x to the right, y downwards, as in the pictures), cut into
+ * square cells; edges, the cell's side and the floor's depth are in whole millimetres. The first answers how many cells a row has
+ * and how many rows there are. The second takes points in metres, a list for each coordinate, and writes the greatest height of
+ * the points in each cell, in millimetres, 0 where there are none, by rows into columns*rows numbers; the volume in cubic
+ * millimetres; how many points lie inside the rectangle and outside; and how many cells have no point. */
+uint32_t plombrisa_heap_shape(
+    int64_t left, int64_t right, int64_t top, int64_t bottom, size_t cell, int64_t floor, uint64_t *columns, uint64_t *rows);
+uint32_t plombrisa_heap_volume(
+    const double *xs, size_t xs_len, const double *ys, size_t ys_len, const double *zs, size_t zs_len,
+    int64_t left, int64_t right, int64_t top, int64_t bottom, size_t cell, int64_t floor,
+    uint64_t *grid, size_t grid_len, uint64_t *volume, uint64_t *inside, uint64_t *outside, uint64_t *empty);
+
 #endif

@@ -1,11 +1,13 @@
 //! Plombrisa from Rust: safe functions over the exports of the proved library. Names and order of the exports are fixed in
-//! crates/plombrisa/src; nothing checks these declarations against them but the differential runs, the sheets' run and Netpbm's.
+//! crates/plombrisa/src; nothing checks these declarations against them but the differential runs, the sheets' run, Netpbm's and the
+//! volume's.
 
 mod maps;
 mod netpbm;
 mod pictures;
 mod points;
 mod sheets;
+mod volume;
 
 pub use maps::{Map, cover, cover_in, valid_count, valid_count_in, valid_range, valid_range_in};
 pub use netpbm::{
@@ -15,6 +17,7 @@ pub use netpbm::{
 pub use pictures::{bilinear, bilinear_in, pixel, pixel_in};
 pub use points::{Intrinsics, PointRecord, points, points_in, rectified_point, rectified_point_in};
 pub use sheets::{Kind, Sheet, read_sheet, read_sheet_in, sheet_length_in, sheet_size_in, write_sheet, write_sheet_in};
+pub use volume::{Figures, Heap, Site, heap_shape, heap_shape_in, heap_volume, heap_volume_in};
 
 mod raw {
     use crate::PointRecord;
@@ -107,6 +110,16 @@ mod raw {
         pub fn plombrisa_read_pfm(
             file: *const u8, file_len: usize, out: *mut f32, out_len: usize, width: *mut u64, height: *mut u64,
         ) -> u32;
+
+        pub fn plombrisa_heap_shape(
+            left: i64, right: i64, top: i64, bottom: i64, cell: usize, floor: i64, columns: *mut u64, rows: *mut u64,
+        ) -> u32;
+
+        pub fn plombrisa_heap_volume(
+            xs: *const f64, xs_len: usize, ys: *const f64, ys_len: usize, zs: *const f64, zs_len: usize,
+            left: i64, right: i64, top: i64, bottom: i64, cell: usize, floor: i64,
+            grid: *mut u64, grid_len: usize, volume: *mut u64, inside: *mut u64, outside: *mut u64, empty: *mut u64,
+        ) -> u32;
     }
 }
 
@@ -152,8 +165,8 @@ impl Default for Options {
     }
 }
 
-/// Why a call was refused: the rows of the table of document 01, and from 31 those that sheets and from 41 those that PGM and PFM
-/// files added, each with its number.
+/// Why a call was refused: the rows of the table of document 01, and from 31 those that sheets, from 41 those that PGM and PFM
+/// files and from 51 those that the heap's volume added, each with its number.
 #[derive(Debug, Clone, Copy, PartialEq, Eq)]
 #[repr(u32)]
 pub enum Refusal {
@@ -188,6 +201,11 @@ pub enum Refusal {
     FileSize = 43,
     FileData = 44,
     FileOutput = 45,
+    CellSide = 51,
+    DistanceOutOfRange = 52,
+    RectangleSides = 53,
+    TooManyCells = 54,
+    GridLength = 55,
 }
 
 impl Refusal {
@@ -204,6 +222,7 @@ impl Refusal {
             CameraOutOfRange, BaselineOutOfRange, MapSize, ListTooShort, CoordinateNan, PixelOutside,
             CellInfinite, CellNotWhole, OutputTooShort, NumberUnfit, VersionOrKindUnknown, SheetSize, CellNumber, BytesLeftOver,
             FileHeader, FileMaximum, FileSize, FileData, FileOutput,
+            CellSide, DistanceOutOfRange, RectangleSides, TooManyCells, GridLength,
         ];
         all.into_iter().find(|refusal| refusal.number() == number)
     }
@@ -243,6 +262,14 @@ impl Refusal {
             FileSize => "the file's width or height is outside 1 to 2,048",
             FileData => "the file's data are cut, or bytes are left over",
             FileOutput => "the output's length does not fit the file",
+            CellSide => "the cell's side is outside 10 to 10,000 mm",
+            DistanceOutOfRange => {
+                "a coordinate is not finite, or it, an edge or the floor's depth is over 100,000 mm in size, or the coordinates' lists \
+                 are not of one length"
+            }
+            RectangleSides => "the rectangle's sides are not positive whole multiples of the cell's",
+            TooManyCells => "the rectangle has more than 65,536 cells",
+            GridLength => "the grid's length is not the number of cells",
         }
     }
 }

@@ -18,7 +18,7 @@ fn printed(command: &mut Command) -> String {
 #[test]
 fn the_readme_shows_them() {
     let readme = read_to_string(repository().join("README.md")).expect("README.md");
-    for name in ["match.c", "match.rs", "sheet.rs", "netpbm.rs"] {
+    for name in ["match.c", "match.rs", "sheet.rs", "netpbm.rs", "volume.rs"] {
         let text = read_to_string(repository().join("host/plombrisa/examples").join(name)).expect(name);
         assert!(readme.contains(&text), "README.md does not show {name} as it is");
     }
@@ -68,4 +68,6 @@ fn the_rust_examples_run() {
     assert_eq!(printed_by_example("match"), "disparity at (2, 1): 1\n");
     assert_eq!(printed_by_example("sheet"), "8 bytes: [01, 00, 02, 02, 00, 09, 02, 01]\n2 by 2: [NaN, 4.0, -1.0, 0.0]\n");
     assert_eq!(printed_by_example("netpbm"), "3 by 1: [97, 98, 99]\n2 by 1: [NaN, 4.5]\n");
+    let figures = "Figures { volume: 187500000, inside: 3, outside: 1, empty: 0 }";
+    assert_eq!(printed_by_example("volume"), format!("2 by 1: [500, 250], {figures}\n"));
 }

@@ -84,5 +84,18 @@ int main(void) {
     if (plombrisa_read_pfm(pfm, 36, rows, 5, &width, &height) != 45 || width != 7 || rows[0] != 7) return 36;
     if (plombrisa_read_pfm(pfm, 36, rows, 6, &width, &height) != 0 || width != 3 || height != 2) return 37;
     if (!isnan(rows[0]) || rows[1] != 4 || rows[2] != -1 || rows[3] != 0 || rows[4] != 1 || rows[5] != 2) return 38;
+
+    /* six cells, and points in the first, lower in the first, in the last, and on the right edge: four figures that are four numbers */
+    const double xs[4] = {0, 0.009, 0.025, 0.03}, ys[4] = {0, 0.009, 0.01, 0.01}, zs[4] = {0.9, 0.95, 0.8, 0.8};
+    uint64_t columns = 7, cell_rows = 7;
+    if (plombrisa_heap_shape(0, 31, 0, 20, 10, 1000, &columns, &cell_rows) != 53 || columns != 7 || cell_rows != 7) return 39;
+    if (plombrisa_heap_shape(0, 30, 0, 20, 10, 1000, &columns, &cell_rows) != 0 || columns != 3 || cell_rows != 2) return 40;
+    uint64_t grid[7] = {7, 7, 7, 7, 7, 7, 77}, measured = 7, inside = 7, outside = 7, empty = 7;
+    if (plombrisa_heap_volume(xs, 4, ys, 4, zs, 3, 0, 30, 0, 20, 10, 1000, grid, 6, &measured, &inside, &outside, &empty) != 52) return 41;
+    if (plombrisa_heap_volume(xs, 4, ys, 4, zs, 4, 0, 30, 0, 20, 10, 1000, grid, 7, &measured, &inside, &outside, &empty) != 55) return 42;
+    if (grid[0] != 7 || grid[5] != 7 || measured != 7 || inside != 7 || outside != 7 || empty != 7) return 43;
+    if (plombrisa_heap_volume(xs, 4, ys, 4, zs, 4, 0, 30, 0, 20, 10, 1000, grid, 6, &measured, &inside, &outside, &empty) != 0) return 44;
+    if (measured != 30000 || inside != 3 || outside != 1 || empty != 4) return 45;
+    if (grid[0] != 100 || grid[1] != 0 || grid[2] != 0 || grid[3] != 0 || grid[4] != 0 || grid[5] != 200 || grid[6] != 77) return 46;
     return 0;
 }

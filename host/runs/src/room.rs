@@ -31,6 +31,17 @@ impl Cell for f32 {
     }
 }
 
+impl Cell for u64 {
+    /// No height of a heap.
+    fn before(index: usize) -> Self {
+        0xA5A5_0000_0000_0000 + index as u64
+    }
+
+    fn same_bits(self, other: Self) -> bool {
+        self == other
+    }
+}
+
 /// Cells to lend, kept from call to call.
 pub struct Room<T> {
     cells: Vec<T>,

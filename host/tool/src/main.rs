@@ -1,10 +1,11 @@
-//! The host's program: two PGM pictures in, a PFM map and a PNG preview out. The library reads, matches and writes; this names the
-//! files. The exit status is 1 where something was refused or a file could not be read or written, 2 where the words make no sense.
+//! The host's program: two PGM pictures in, a PFM map and a PNG preview out, or the volume of the heap that they show. The library
+//! reads, matches, measures and writes; this names the files. The exit status is 1 where something was refused or a file could not be
+//! read or written, 2 where the words make no sense.
 mod arguments;
 
-use arguments::{Match, USAGE};
+use arguments::{Asked, Match, USAGE, Volume};
 use heap::{colours, png};
-use plombrisa::{Map, Options, OwnedPicture, Refusal, cover, match_block, read_pgm, write_pfm};
+use plombrisa::{Map, Options, OwnedMap, OwnedPicture, Refusal, cover, heap_volume, match_block, points, read_pgm, write_pfm};
 use std::fs;
 use std::io::{self, Write};
 use std::process::ExitCode;
@@ -30,18 +31,49 @@ fn preview(map: Map, options: &Options) -> Vec<u8> {
     png::encode(&rows)
 }
 
-/// Makes and writes the map and its preview, and answers what is to be printed of them.
-fn run(asked: &Match) -> Result<String, String> {
-    let (left, right) = (picture_of(&asked.left)?, picture_of(&asked.right)?);
+/// The map of the pictures in two files.
+fn map_of(left_file: &str, right_file: &str, options: &Options) -> Result<OwnedMap, String> {
+    let (left, right) = (picture_of(left_file)?, picture_of(right_file)?);
     let (width, height) = (left.width, left.height);
-    let both = format!("{} and {}", asked.left, asked.right);
-    let cells = match_block(left.picture(), right.picture(), &asked.options).map_err(|refusal| refused(&both, refusal))?;
-    let map = Map { cells: &cells, width, height };
+    let both = format!("{left_file} and {right_file}");
+    let cells = match_block(left.picture(), right.picture(), options).map_err(|refusal| refused(&both, refusal))?;
+    Ok(OwnedMap { cells, width, height })
+}
+
+/// Makes and writes the map and its preview, and answers what is to be printed of them.
+fn draw(asked: &Match) -> Result<String, String> {
+    let owned = map_of(&asked.left, &asked.right, &asked.options)?;
+    let map = owned.map();
     let file = write_pfm(map).map_err(|refusal| refused(&asked.map, refusal))?;
     let permille = cover(map).map_err(|refusal| refused(&asked.map, refusal))?;
     write_file(&asked.map, &file)?;
     write_file(&asked.preview, &preview(map, &asked.options))?;
-    Ok(format!("size: {width} by {height}\ncover: {permille} of 1000"))
+    Ok(format!("size: {} by {}\ncover: {permille} of 1000", map.width, map.height))
+}
+
+/// Cubic millimetres in cubic metres, all their digits.
+fn cubic_metres(cubic_millimetres: u64) -> String {
+    const CUBIC_METRE: u64 = 1_000_000_000;
+    format!("{}.{:09}", cubic_millimetres / CUBIC_METRE, cubic_millimetres % CUBIC_METRE)
+}
+
+/// Measures the heap, and answers what is to be printed of it.
+fn measure(asked: &Volume) -> Result<String, String> {
+    let map = map_of(&asked.left, &asked.right, &asked.options)?;
+    let points = points(map.map(), &asked.camera).map_err(|refusal| refused("the camera", refusal))?;
+    let heap = heap_volume(&points, &asked.site).map_err(|refusal| refused("the heap", refusal))?;
+    let figures = heap.figures;
+    Ok(format!(
+        "volume: {} cubic metres\npoints: {} in the rectangle, {} outside\ncells: {} by {}, {} empty",
+        cubic_metres(figures.volume), figures.inside, figures.outside, heap.columns, heap.rows, figures.empty,
+    ))
+}
+
+fn run(asked: &Asked) -> Result<String, String> {
+    match asked {
+        Asked::Match(asked) => draw(asked),
+        Asked::Volume(asked) => measure(asked),
+    }
 }
 
 /// The arguments as text; one that is no UTF-8 is refused, for its name could not be said.

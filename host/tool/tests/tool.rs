@@ -1,9 +1,10 @@
-//! The tool as a user starts it: on the example in both modes, and on files and words that it must turn away.
+//! The tool as a user starts it: on the example in both modes, and on files, sites and words that it must turn away.
 use heap::scene::Scene;
-use plombrisa::{Map, Options, Picture, cover, match_block, read_pfm};
+use plombrisa::{Intrinsics, Map, Options, Picture, cover, match_block, points, read_pfm};
 use runs::program::program_at;
 use std::fs;
 use std::path::{Path, PathBuf};
+use volume_run::measure::{self, Ground, Measured};
 
 const LEFT: &str = concat!(env!("CARGO_MANIFEST_DIR"), "/example/left.pgm");
 const RIGHT: &str = concat!(env!("CARGO_MANIFEST_DIR"), "/example/right.pgm");
@@ -97,10 +98,14 @@ fn red_pixels(png: &[u8], width: usize) -> impl Iterator<Item = bool> {
     rows[..rows.len() - 4].chunks(1 + width).flat_map(move |row| row[1..].iter().map(move |&pixel| pixel == red))
 }
 
+fn readme() -> String {
+    fs::read_to_string(concat!(env!("CARGO_MANIFEST_DIR"), "/../../README.md")).expect("README.md")
+}
+
 /// What the README says of the example: its command, and the cover of both modes.
 #[test]
 fn the_readme_says_what_is_printed() {
-    let readme = fs::read_to_string(concat!(env!("CARGO_MANIFEST_DIR"), "/../../README.md")).expect("README.md");
+    let readme = readme();
     let (block, ..) = matched(LEFT, RIGHT, "readme_block", &["--num-disparities", "24"]);
     assert!(readme.contains("tool/example/right.pgm map.pfm preview.png --num-disparities 24\n"));
     assert!(readme.contains(&format!("```\n{}```\n", block.out)), "{}", block.out);
@@ -122,6 +127,114 @@ fn the_example_in_semi_global_mode() {
     let whole = Options { subpixel: false, lr_consistency: true, min_disparity: -2, block_size: 5, ..options };
     let words = ["--semi-global", "--no-subpixel", "--num-disparities", "24", "--min-disparity", "-2", "--block-size", "5"];
     on_the_example("whole", &words, whole);
+}
+
+/// The numbers of the example's camera and site: two cameras half a metre apart and 6 m above the ground.
+const CAMERA: [&str; 10] = ["--fx", "60", "--fy", "60", "--cx", "100", "--cy", "75", "--baseline", "0.5"];
+const SITE: [&str; 12] =
+    ["--left", "-7000", "--right", "7000", "--top", "-7000", "--bottom", "7000", "--cell", "250", "--floor", "6000"];
+
+/// A measurement of these pictures; of an option that is given twice the last counts.
+fn measured(left: &str, right: &str, options: &[&str]) -> Ended {
+    tool(&[&["volume", left, right], &CAMERA[..], &SITE, options].concat())
+}
+
+/// What the plain Rust measures on the example, with `CAMERA` and `SITE`.
+fn measured_plainly(options: &Options) -> Measured {
+    let Scene { width, height, left, right } = Scene::example();
+    let picture = |bytes| Picture { bytes, width, height };
+    let cells = match_block(picture(&left), picture(&right), options).expect("the pair is accepted");
+    let camera = Intrinsics { fx: 60.0, fy: 60.0, cx: 100.0, cy: 75.0, baseline: 0.5 };
+    let records = points(Map { cells: &cells, width, height }, &camera).expect("a camera");
+    let list = |of: fn(&plombrisa::PointRecord) -> f64| records.iter().map(of).collect::<Vec<f64>>();
+    let ground = Ground { left: -7000, right: 7000, top: -7000, bottom: 7000, cell: 250, floor: 6000 };
+    measure::measure(&list(|p| p.x), &list(|p| p.y), &list(|p| p.z), &ground).expect("a site")
+}
+
+/// The tool prints what the plain Rust measures.
+fn measured_on_the_example(words: &[&str], options: Options) {
+    let ended = measured(LEFT, RIGHT, words);
+    assert_eq!((ended.status, ended.err.as_str()), (Some(0), ""), "{words:?}");
+    let Measured { volume, inside, outside, empty, .. } = measured_plainly(&options);
+    let digits = format!("{volume:010}");
+    let (whole, fraction) = digits.split_at(digits.len() - 9);
+    let should = format!(
+        "volume: {whole}.{fraction} cubic metres\npoints: {inside} in the rectangle, {outside} outside\ncells: 56 by 56, {empty} empty\n"
+    );
+    assert_eq!(ended.out, should, "{words:?}");
+}
+
+#[test]
+fn the_volume_of_the_example() {
+    let block = Options { num_disparities: 24, ..Options::default() };
+    measured_on_the_example(&["--num-disparities", "24"], block);
+    let semi_global = Options { semi_global: true, lr_consistency: false, ..block };
+    measured_on_the_example(&["--num-disparities", "24", "--semi-global", "--no-lr"], semi_global);
+    // the heap that was drawn: a cone whose foot is seen 63 pixels from its middle at disparity 5, and whose top at disparity 18
+    let (foot, height) = (63.0 * 0.5 / 5.0, 60.0 * 0.5 / 5.0 - 60.0 * 0.5 / 18.0);
+    let cone = std::f64::consts::PI * foot * foot * height / 3.0;
+    let volume = measured_plainly(&semi_global).volume as f64 / 1e9;
+    assert!((volume / cone - 1.0).abs() < 0.05, "{volume} of {cone} cubic metres");
+}
+
+/// What the README says of the example's volume: the words of its command, run here, print what it shows, and with other cells what
+/// it says of them.
+#[test]
+fn the_readme_says_what_is_measured() {
+    let readme = readme();
+    let (_, behind) = readme.split_once("-p tool -- volume ").expect("the command");
+    let (command, shown) = behind.split_once('\n').expect("the command's line");
+    let place = |word| match word {
+        "tool/example/left.pgm" => LEFT,
+        "tool/example/right.pgm" => RIGHT,
+        other => other,
+    };
+    let words: Vec<&str> = ["volume"].into_iter().chain(command.split_whitespace().map(place)).collect();
+    let ended = tool(&words);
+    assert_eq!((ended.status, ended.err.as_str()), (Some(0), ""));
+    assert!(shown.starts_with(&format!("\nwhich prints\n\n```\n{}```\n", ended.out)), "{}", ended.out);
+
+    let text = shown.split_whitespace().collect::<Vec<&str>>().join(" ");
+    let with_cells = |side| tool(&[&words, &["--cell", side][..]].concat()).out;
+    let figure = |out: &str, at: usize| out.split_whitespace().nth(at).expect("a figure").parse::<f64>().expect("a number").round();
+    let (large, small) = (with_cells("500"), with_cells("100"));
+    assert!(text.contains(&format!("({} with cells of 500 mm)", figure(&large, 1))), "{large}");
+    let (volume, empty) = (figure(&small, 1), figure(&small, 15));
+    assert!(text.contains(&format!("({volume} with cells of 100 mm, of which {empty} are empty)")), "{small}");
+}
+
+#[test]
+fn heaps_that_are_refused() {
+    let refusals: [(&[&str], &str); 13] = [
+        (&["--fx", "0"], "the camera: refused, 21: "),
+        (&["--cy", "NaN"], "the camera: refused, 21: "),
+        (&["--baseline", "0"], "the camera: refused, 22: "),
+        (&["--cell", "9"], "the heap: refused, 51: "),
+        (&["--cell", "10001", "--floor", "100001"], "the heap: refused, 51: "),
+        (&["--floor", "100001"], "the heap: refused, 52: "),
+        (&["--left", "-100001", "--right", "-100001"], "the heap: refused, 52: "),
+        // half a metre more than a hundred metres away at disparity 5
+        (&["--baseline", "8.375", "--right", "-7000"], "the heap: refused, 52: "),
+        (&["--right", "-7000"], "the heap: refused, 53: "),
+        (&["--bottom", "7001", "--cell", "10"], "the heap: refused, 53: "),
+        (&["--cell", "10"], "the heap: refused, 54: "),
+        (&["--block-size", "4", "--cell", "10"], "refused, 4: "),
+        (&["--num-disparities", "257"], "refused, 7: "),
+    ];
+    for (options, said) in refusals {
+        let ended = measured(LEFT, RIGHT, &[&["--num-disparities", "24"], options].concat());
+        assert_eq!((ended.status, ended.out.as_str()), (Some(1), ""), "{options:?}");
+        assert!(ended.err.starts_with("tool: ") && ended.err.contains(said), "{options:?}: {}", ended.err);
+    }
+    let cut = own("cut_heap.pgm");
+    fs::write(&cut, b"P5\n2 1\n255\na").expect("the file can be written");
+    let cut = cut.to_str().expect("a name");
+    let unfit = [(cut, format!("{cut}: refused, 44: ")), ("/nowhere/right.pgm", String::from("/nowhere/right.pgm: cannot be read: "))];
+    for (right, said) in unfit {
+        let ended = measured(LEFT, right, &[]);
+        assert_eq!((ended.status, ended.out.as_str()), (Some(1), ""), "{right}");
+        assert!(ended.err.contains(&said), "{right}: {}", ended.err);
+    }
 }
 
 #[test]
@@ -182,7 +295,11 @@ fn files_that_are_not_there_or_cannot_be_written() {
 fn words_that_make_no_sense_are_answered_with_the_usage() {
     let unknown = ["match", LEFT, RIGHT, "m", "p", "--deep"];
     let no_value = ["match", LEFT, RIGHT, "m", "p", "--block-size", "x"];
-    for words in [&[][..], &["match"], &["draw"], &unknown, &no_value] {
+    let no_camera = [&["volume", LEFT, RIGHT], &SITE[..]].concat();
+    let no_site = [&["volume", LEFT, RIGHT], &CAMERA[..]].concat();
+    let no_floor = [&no_site, &SITE[..10]].concat();
+    let no_whole_floor = [&no_floor[..], &["--floor", "6.5"]].concat();
+    for words in [&[][..], &["match"], &["draw"], &unknown, &no_value, &no_camera, &no_site, &no_floor, &no_whole_floor] {
         let ended = tool(words);
         assert_eq!(ended.status, Some(2), "{words:?}");
         assert!(ended.err.contains("usage: tool match LEFT.pgm RIGHT.pgm MAP.pfm PREVIEW.png"), "{words:?}: {}", ended.err);
