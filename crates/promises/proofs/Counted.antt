@@ -2,7 +2,7 @@
 use Prim.Native.Nat.{ℕ, _+_}
 use mathlib.Core.Path.{_≡_, _∙_}
 use mathlib.Core.List.{List, map}
-use lib.ListN.{length, length-map}
+use lib.ListN.{length-map}
 use lib.Ieee.{Float}
 use Rattle.points.specs.declared.Intrinsics.{Intrinsics}
 use Rattle.points.specs.declared.PointRecord.{PointRecord}

@@ -1,20 +1,21 @@
--- A coordinate's whole number of millimetres: which one it is, that the test of the product before it is rounded is the test of that number, and that it is in the range of the cast.
+-- A coordinate's whole number of millimetres: which one it is, that the test of the product before it is rounded is the test of that number, and that the cast to it loses nothing.
 -- Assumes nothing.
 use Prim.Native.Nat.{ℕ, zero, suc, _+_, _-_, _*_, _/_, _^_, _≤_, _<_, min}
-use native.Mathlib.Nat.{le-of-suc-le-suc, mul-one, mul-div-cancel, mul-le-mul-right, div-lt-iff-lt-mul, le-div-iff-mul-le}
+use native.Mathlib.Nat.{le-of-suc-le-suc, mul-one, mul-div-cancel, div-lt-iff-lt-mul, le-div-iff-mul-le}
 use native.Mathlib.Omega.{arith}
 use mathlib.Core.Path.{_≡_, refl, sym, ap, _∙_, subst}
-use mathlib.Core.Bool.{Bool, true, false, not, _&&_, cond, false≢true, and-true}
-use lib.Dec.{T, leb, ltb, lit<}
+use mathlib.Core.Bool.{Bool, Bool·beq, true, false, not, _&&_, _||_, cond, true≢false, false≢true, and-true}
+use lib.Dec.{T, leb, ltb, eqb, le→leb, lt→ltb, eqb→eq, lit<}
 use borrow.Author.Tests.{ltb-true, ltb-false, leb-true, leb-false, lt-ltb, le-leb, lt-leb}
 use mir.Syntax.{w64}
 use mir.Val.{toZ, ofZ}
 use mir.ValLaws.{toZ-ofZ}
 use lib.IntN.{ℤ, pos, negsuc, negℤ, natAbs}
-use lib.Ieee.{Float, nan, inf, fin, binary64, unlike, up, down, mul, lt, le, toSigned, fits, isNan}
+use lib.Ieee.{Float, nan, inf, fin, binary64, unlike, up, down, mul, lt, eq, round, ofInt, toSigned, inFloat, inSigned, fits, isNan}
 use lib.Ieee.Casts.{toSigned-in}
-use lib.Ieee.Fits.{down-pos, mul-fits}
+use lib.Ieee.Fits.{and-l, down-pos, mul-fits}
 use lib.Ieee.Exact.{HasValue}
+use lib.Ieee.Back.{positive-back, negative-back}
 use Rattle.numbers.proofs.Patterns.{round-no-nan}
 use Rattle.numbers.specs.Away.{nearestWhole, roundedAway}
 use Rattle.volume.specs.Metres.{thousand, millimetres, sizeMost, isNear, goodCoordinate}
@@ -58,23 +59,25 @@ cast-whole y s n v few =
     let high : min n (2 ^ 63 - 1) ≡ n = omega arith in
     cast-is y s n v ∙ rw (low, high)
 
--- the range of the cast
-pub record InRange (y : Float) : Type 0 where
-  pub above : T (le (fin true 1 (pos 63)) y)
-  pub below : T (lt y (fin false 1 (pos 63)))
+-- a whole number that is not zero is cast without loss
+whole-casts : (s : Bool) (n : ℕ) → n ≤ sizeMost → eq (round binary64 s n 1) (fin false 0 (pos 0)) ≡ false → T (inSigned binary64 63 (round binary64 s n 1))
+unfolding ofInt inFloat
+whole-casts false n few some = positive-back binary64 63 n (le→leb n (2 ^ 53) (omega arith)) (omega arith) .0
+whole-casts true zero few some = absurd (true≢false (unfold round eq in some))
+whole-casts true (suc k) few some = negative-back binary64 63 k (lt→ltb k (2 ^ 53) (omega arith)) (omega arith) .0
 
-whole-in-range : (y : Float) (s : Bool) (n : ℕ) → HasValue y s n 1 → n ≤ sizeMost → InRange y
-unfolding lt le
-whole-in-range nan s n v few = absurd v
-whole-in-range (inf t) s n v few = absurd v
-whole-in-range (fin t m e) s n v few = go t
+-- and zero is a zero
+zero-is : (y : Float) (s : Bool) (n : ℕ) → HasValue y s n 1 → eq y (fin false 0 (pos 0)) ≡ true → n ≡ 0
+unfolding eq
+zero-is nan s n v none = absurd v
+zero-is (inf t) s n v none = absurd v
+zero-is (fin t m e) s n v none =
+    let nothing : m * up e * 1 ≡ 0 * 1 * down e = eqb→eq _ _ (and-l (eqb (m * up e * 1) (0 * 1 * down e)) (Bool·beq t false || eqb (m * up e * 1) 0) (subst T (sym none) tt)) in
+    go n (omega (arith, v .1))
   where
-    small : m * up e * 1 < 2 ^ 63 * down e
-    small = omega (arith, v .1, mul-le-mul-right (down e) few, down-pos e)
-
-    go : (t : Bool) → InRange (fin t m e)
-    go true = record { above = rw (lt-ltb _ _ small) tt; below = rw (lt-ltb 0 (m * up e * 1 + 2 ^ 63 * down e) (omega (arith, down-pos e))) tt }
-    go false = record { above = rw (lt-ltb 0 (2 ^ 63 * down e + m * up e * 1) (omega (arith, down-pos e))) tt; below = rw (lt-ltb _ _ small) tt }
+    go : (n : ℕ) → n * down e ≡ 0 → n ≡ 0
+    go zero h = refl
+    go (suc n) h = absurd (omega (arith, down-pos e, h))
 
 -- ---- the product
 
@@ -163,11 +166,24 @@ good-product x good = go (product x) refl
     go (inf false) p = absurd (false≢true (unfold lt in rw p at passes))
     go (fin s m e) p = record { sign = s; digits = m; exponent = e; is = p; few = good-few x s m e p good }
 
--- the rounded product can be cast
-pub good-in-range : (x : Float) → goodCoordinate x ≡ true → InRange (roundedAway binary64 (product x))
-good-in-range x good =
-    let z = good-product x good in
-    whole-in-range _ _ _ (rounded-value x (z .sign) (z .digits) (z .exponent) (z .is)) (z .few)
+-- the rounded product of a good coordinate is cast without loss where it is not zero, and else the number is 0
+module _ (x : Float) (good : goodCoordinate x ≡ true) where
+  rounded-product : HasValue (roundedAway binary64 (product x)) (good-product x good .sign) (wholeOf (good-product x good .digits) (good-product x good .exponent)) 1
+  rounded-product = let z = good-product x good in rounded-value x (z .sign) (z .digits) (z .exponent) (z .is)
+
+  pub rounded-casts : eq (roundedAway binary64 (product x)) (fin false 0 (pos 0)) ≡ false → T (inSigned binary64 63 (roundedAway binary64 (product x)))
+  unfolding roundedAway
+  rounded-casts some = let z = good-product x good in rw (z .is) (whole-casts (z .sign) (wholeOf (z .digits) (z .exponent)) (z .few) (rw (z .is) at some))
+
+  pub rounded-none : eq (roundedAway binary64 (product x)) (fin false 0 (pos 0)) ≡ true → millimetres x ≡ pos 0
+  unfolding millimetres
+  rounded-none none =
+      let z = good-product x good in
+      cast-is _ _ _ rounded-product ∙ rw (zero-is _ _ _ rounded-product none) (either (z .sign))
+    where
+      either : (s : Bool) → cond s (negℤ (pos (min 0 (2 ^ 63)))) (pos (min 0 (2 ^ 63 - 1))) ≡ pos 0
+      either true = refl
+      either false = refl
 
 -- a number of millimetres comes back from its bits
 pub millimetres-back : (x : Float) → toZ w64 (ofZ w64 (millimetres x)) ≡ millimetres x

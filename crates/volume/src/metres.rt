@@ -54,12 +54,16 @@ pub fn good_points(xs: &[f64], ys: &[f64], zs: &[f64]) -> bool
     all_good(zs)
 }
 
-// A coordinate in whole millimetres.
+// A coordinate in whole millimetres. The cast is of whole numbers; minus zero is none of them to it.
 fn to_millimetres(x: f64) -> i64
     requires { ⌜ goodCoordinate x ≡ true ⌝ }
     ensures { λ r. ⌜ r ≡ millimetres x ⌝ }
 {
-    std::num::truncating_f64_to_i64(round_half_away_wide(x * 1000.0))
+    let whole = round_half_away_wide(x * 1000.0);
+    if whole == 0.0 {
+        return 0;
+    }
+    whole as i64
 }
 
 // A point in whole millimetres.

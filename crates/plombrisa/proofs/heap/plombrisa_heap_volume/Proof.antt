@@ -1,7 +1,5 @@
 -- `plombrisa::heap::plombrisa_heap_volume` meets its contract. Assumes nothing.
-use mathlib.Core.Path.{_≡_, ap}
 use borrow.Author.Needs.{needs}
-use Rattle.plombrisa.specs.Options.{siteOf}
 use Rattle.plombrisa.proofs.Sites.{site-back}
 use Rattle.plombrisa.proofs.heap.plombrisa_heap_volume.Statement.{statement}
 use Rattle.plombrisa.proofs.heap.plombrisa_heap_volume.Tie as tie
