@@ -1,8 +1,8 @@
 -- What holds where the call answers with figures: no test refused, and the figures are those of the points. Assumes nothing.
-use Prim.Native.Nat.{ℕ, _+_, _*_, _<_, _^_}
+use Prim.Native.Nat.{ℕ, _+_, _*_, _≤_, _<_, _^_}
 use mathlib.Core.Path.{_≡_, refl, _∙_, subst}
 use mathlib.Core.Bool.{Bool, true, false, cond}
-use mathlib.Core.List.{List}
+use mathlib.Core.List.{List, _∷_, _++_}
 use native.Mathlib.Omega.{arith}
 use borrow.Author.Tests.{eqb-true}
 use lib.Dec.{eqb}
@@ -11,6 +11,7 @@ use lib.ListN.{length}
 use Rattle.volume.specs.declared.site.Site.{Site}
 use Rattle.volume.specs.declared.site.Shape.{Shape}
 use Rattle.volume.specs.declared.site.Shape.the-variants as shape
+use Rattle.volume.specs.declared.metres.Spot.{Spot}
 use Rattle.volume.specs.declared.heap.Figures.{Figures}
 use Rattle.volume.specs.declared.heap.Heap.the-variants as heap
 use Rattle.volume.specs.Metres.{goodPoints, spotsOf}
@@ -19,6 +20,7 @@ use Rattle.volume.specs.Heights.{figuresOf}
 use Rattle.volume.specs.Outcome.{shapeFor, heapIn, heapOf}
 use Rattle.volume.specs.Answers.{Fit}
 use Rattle.volume.proofs.Counts.{counts-given}
+use Rattle.volume.proofs.Greatest.{volume-never-lower}
 use Rattle.volume.proofs.Largest.{volume-most}
 use Rattle.volume.proofs.Shapes.{gridded, all-cells}
 
@@ -55,3 +57,9 @@ module _ {s : Site} {xs ys zs : List Float} {m : ℕ} {f : Figures} (h : Measure
   pub fits : f .volume < 2 ^ 53
   unfolding figuresOf
   fits = rw (h .figures) (omega (arith, volume-most s (h .fit) xs ys zs (h .good)))
+
+-- with one point more the volume is no less
+pub more-points : {s : Site} {xs ys zs xs′ ys′ zs′ : List Float} {m m′ : ℕ} {f f′ : Figures} → MeasuredHeap s xs ys zs m f → MeasuredHeap s xs′ ys′ zs′ m′ f′
+    → (before after : List Spot) (p : Spot) → spotsOf xs ys zs ≡ before ++ after → spotsOf xs′ ys′ zs′ ≡ before ++ p ∷ after → f .volume ≤ f′ .volume
+unfolding figuresOf
+more-points {s = s} h h′ before after p is is′ = rw (h .figures, h′ .figures, is, is′) (volume-never-lower s before after p)

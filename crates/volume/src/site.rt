@@ -98,9 +98,9 @@ fn is_multiple(n: usize, side: usize) -> bool
     n % side == 0
 }
 
-// The cells of a site, or its refusal; `near` says whether the points are near.
-pub fn shape_for(near: bool, site: Site) -> Shape
-    ensures { λ r. ⌜ r ≡ shapeFor near site ⌝ }
+// The cells of a row and the rows of a site, or its refusal; `good` says whether the points are good.
+pub fn shape_for(good: bool, site: Site) -> Shape
+    ensures { λ r. ⌜ r ≡ shapeFor good site ⌝ }
 {
     let side = site.cell;
     if side < 10 {
@@ -109,7 +109,7 @@ pub fn shape_for(near: bool, site: Site) -> Shape
     if 10000 < side {
         return Shape::Refused(51);
     }
-    if !near {
+    if !good {
         return Shape::Refused(52);
     }
     if !near_site(site) {

@@ -20,8 +20,8 @@ good-cell : (c : tie.Else2) → goodCell (c .before .before .args .site) ≡ tru
 unfolding goodCell
 good-cell c = rw (le-leb 10 _ (c .before .if1 .left), le-leb _ 10000 (c .if2 .left))
 
-points-near : (c : tie.Else3) → c .before .before .before .args .near ≡ true
-points-near c = not-false (c .before .before .before .args .near) (c .if3 .left)
+points-near : (c : tie.Else3) → c .before .before .before .args .good ≡ true
+points-near c = not-false (c .before .before .before .args .good) (c .if3 .left)
 
 site-near : (c : tie.Else4) → nearSite (c .before .before .before .before .before .args .site) ≡ true
 site-near c = sym (c .before .near-site .ensures) ∙ not-false _ (c .if4 .left)
@@ -29,7 +29,7 @@ site-near c = sym (c .before .near-site .ensures) ∙ not-false _ (c .if4 .left)
 edges : (c : tie.Else4) → NearSite (c .before .before .before .before .before .args .site)
 edges c = near-site _ (site-near c)
 
-good-points : (c : tie.Else4) → c .before .before .before .before .before .args .near && nearSite (c .before .before .before .before .before .args .site) ≡ true
+good-points : (c : tie.Else4) → c .before .before .before .before .before .args .good && nearSite (c .before .before .before .before .before .args .site) ≡ true
 good-points c = rw (points-near (c .before .before), site-near c)
 
 -- the way back to the start, once the sides are known
@@ -76,7 +76,7 @@ returns-2 c = rw (le-leb 10 _ (c .before .if1 .left), lt-leb _ 10000 (c .if2 .ta
 
 returns-3 : tie.Need-returns-3
 unfolding shapeFor
-returns-3 c = rw (good-cell (c .before), not-true (c .before .before .before .args .near) (c .if3 .taken))
+returns-3 c = rw (good-cell (c .before), not-true (c .before .before .before .args .good) (c .if3 .taken))
 
 near-site-requires : tie.Need-near-site-requires
 near-site-requires c κs = search needs
