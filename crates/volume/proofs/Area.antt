@@ -16,6 +16,7 @@ whole-cells n side e =
     let rest : n % side ≡ 0 = eqb-true (n % side) 0 (and-both (ltb 0 n) (eqb (n % side) 0) e .1) in
     omega (arith, mod-add-div' n side)
 
+-- THEOREM: the cells' areas add to the rectangle's
 pub area : (s : Site) → goodSides s ≡ true → cellsOf s * (s .cell * s .cell) ≡ wideOf s * longOf s
 unfolding goodSides
 area s sides =

@@ -20,12 +20,13 @@ count-one : (t : Bool) (a b n : ℕ) → a + b ≡ n → cond t 1 0 + a + (cond 
 count-one true a b n e = omega arith
 count-one false a b n e = omega arith
 
+-- THEOREM: the two counts add to the points
 pub counts-add : (s : Site) (ps : List Spot) → insideCount s ps + outsideCount s ps ≡ length ps
 unfolding insideCount outsideCount
 counts-add s [] = refl
 counts-add s (p ∷ ps) = count-one (isInside s p) (insideCount s ps) (outsideCount s ps) (length ps) (counts-add s ps)
 
--- as many as there are coordinates in each list
+-- THEOREM: of good points, they add to the coordinates in each list
 pub counts-given : (s : Site) (xs ys zs : List Float) → goodPoints xs ys zs ≡ true
     → insideCount s (spotsOf xs ys zs) + outsideCount s (spotsOf xs ys zs) ≡ length xs
 counts-given s xs ys zs e = counts-add s (spotsOf xs ys zs) ∙ spots-length xs ys zs (good xs ys zs e)
@@ -38,6 +39,7 @@ pub record OneCell (s : Site) (p : Spot) : Type 0 where
   pub only : (c : ℕ) → c < cellsOf s → fallsIn s c p ≡ true → c ≡ cell
 
 module _ (s : Site) (fair : goodCell s ≡ true) (sides : goodSides s ≡ true) (p : Spot) where
+  -- THEOREM: a point in the rectangle falls in one cell
   pub one-cell : isInside s p ≡ true → OneCell s p
   one-cell inside =
       let here = cellAt s p in
@@ -49,5 +51,6 @@ module _ (s : Site) (fair : goodCell s ≡ true) (sides : goodSides s ≡ true) 
         only = λ c below falls. eqb-true c here (sym (falls-inside s fair sides p inside c below) ∙ falls);
       }
 
+  -- THEOREM: a point outside falls in none
   pub no-cell : isInside s p ≡ false → (c : ℕ) → c < cellsOf s → fallsIn s c p ≡ false
   no-cell = falls-outside s fair sides p

@@ -22,6 +22,7 @@ module _ (s : Site) (good : goodCell s ≡ true) (sides : goodSides s ≡ true) 
       go true e = e
       go false e = absurd (true≢false (sym falls ∙ no-cell s good sides p e c below))
 
+  -- THEOREM: where every cell has a point and every point in the rectangle has one height, the volume is that height times the rectangle's area
   pub even-heap : (h : ℕ) (ps : List Spot) → ((c : ℕ) → c < cellsOf s → isEmpty s ps c ≡ false)
       → ((before after : List Spot) (p : Spot) → ps ≡ before ++ p ∷ after → isInside s p ≡ true → heightOf s p ≡ h)
       → volumeOf s ps ≡ h * (wideOf s * longOf s)

@@ -24,11 +24,13 @@ raise-mono true h m n l = omega arith
 raise-mono false h m n l = l
 
 module _ (s : Site) where
+  -- THEOREM: one point more, wherever it stands among them, never lowers a cell
   pub never-lower : (before after : List Spot) (p : Spot) (c : ℕ) → heightAt s (before ++ after) c ≤ heightAt s (before ++ p ∷ after) c
   unfolding heightAt
   never-lower [] after p c = raise-up (fallsIn s c p) (heightOf s p) (heightAt s after c)
   never-lower (q ∷ before) after p c = raise-mono (fallsIn s c q) (heightOf s q) _ _ (never-lower before after p c)
 
+  -- THEOREM: no point in a cell is higher than the cell
   pub height-reached : (before after : List Spot) (p : Spot) (c : ℕ) → fallsIn s c p ≡ true → heightOf s p ≤ heightAt s (before ++ p ∷ after) c
   unfolding heightAt
   height-reached [] after p c falls = rw falls (omega arith)
@@ -37,6 +39,7 @@ module _ (s : Site) where
       let up = raise-up (fallsIn s c q) (heightOf s q) (heightAt s (before ++ p ∷ after) c) in
       omega arith
 
+  -- THEOREM: a cell without points has height 0
   pub empty-zero : (ps : List Spot) (c : ℕ) → isEmpty s ps c ≡ true → heightAt s ps c ≡ 0
   unfolding isEmpty heightAt
   empty-zero [] c e = refl
@@ -80,6 +83,7 @@ module _ (s : Site) (c : ℕ) (p : Spot) (ps : List Spot) where
       (λ (l : heightAt s ps c ≤ heightOf s p). first-one falls l)
       (lt-or-le (heightOf s p) (heightAt s ps c))
 
+-- THEOREM: a cell that is not empty has the height of one of its points
 pub height-of-one : (s : Site) (ps : List Spot) (c : ℕ) → isEmpty s ps c ≡ false → HeightOfOne s ps c
 unfolding isEmpty heightAt
 height-of-one s [] c e = absurd (true≢false e)
@@ -89,6 +93,7 @@ height-of-one s (p ∷ ps) c e = go (fallsIn s c p) refl e (height-of-one s ps c
     go true falls e later = falling-one s c p ps falls (isEmpty s ps c) refl later
     go false falls e later = later-one s c p ps (later e) (rw falls)
 
+-- THEOREM: one point more never lowers the volume
 pub volume-never-lower : (s : Site) (before after : List Spot) (p : Spot) → volumeOf s (before ++ after) ≤ volumeOf s (before ++ p ∷ after)
 unfolding volumeOf
 volume-never-lower s before after p = sumTo-mono (cellsOf s) _ _ (λ c _. mul-le-mul-right (s .cell * s .cell) (never-lower s before after p c))

@@ -43,6 +43,7 @@ module _ (s : Site) (near : nearSite s ≡ true) where
   deep-most (x ∷ xs) [] zs all c = omega arith
   deep-most [] ys zs all c = omega arith
 
+  -- THEOREM: no cell is higher than 200,000 mm
   pub heights-most : (xs ys zs : List Float) → goodPoints xs ys zs ≡ true → (c : ℕ) → heightAt s (spotsOf xs ys zs) c ≤ heightMost
   heights-most xs ys zs e = deep-most xs ys zs (good xs ys zs e .zs-good)
 
@@ -52,6 +53,7 @@ module _ (s : Site) (near : nearSite s ≡ true) where
       let n = near-site s near in
       (above-most (s .right) (s .left) (n .right) (n .left), above-most (s .bottom) (s .top) (n .bottom) (n .top))
 
+-- THEOREM: no heap of good points over a fit site is larger than 8·10^15 cubic millimetres
 pub volume-most : (s : Site) {columns : ℕ} → Fit s columns → (xs ys zs : List Float) → goodPoints xs ys zs ≡ true → volumeOf s (spotsOf xs ys zs) ≤ volumeMost
 unfolding volumeOf
 volume-most s fit xs ys zs e =

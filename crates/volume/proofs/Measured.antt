@@ -45,20 +45,23 @@ module _ (s : Site) (xs ys zs : List Float) (m : ℕ) (f : Figures) where
   of-shape (shape.Grid columns rows) is e = of-grid columns rows is (eqb m (columns * rows)) refl e
   of-shape (shape.Refused n) is e = absurd (never e)
 
+  -- THEOREM: where figures are answered, nothing was to be refused
   pub measured : heapOf s xs ys zs m ≡ heap.Measured f → MeasuredHeap s xs ys zs m f
   unfolding heapOf
   measured e = of-shape (shapeFor (goodPoints xs ys zs) s) refl e
 
 module _ {s : Site} {xs ys zs : List Float} {m : ℕ} {f : Figures} (h : MeasuredHeap s xs ys zs m f) where
+  -- THEOREM: the two counts add to the points given
   pub counts : f .inside + f .outside ≡ length xs
   unfolding figuresOf
   counts = rw (h .figures) (counts-given s xs ys zs (h .good))
 
+  -- THEOREM: the volume fits, in an f64 too
   pub fits : f .volume < 2 ^ 53
   unfolding figuresOf
   fits = rw (h .figures) (omega (arith, volume-most s (h .fit) xs ys zs (h .good)))
 
--- with one point more the volume is no less
+-- THEOREM: with one point more the volume is no less
 pub more-points : {s : Site} {xs ys zs xs′ ys′ zs′ : List Float} {m m′ : ℕ} {f f′ : Figures} → MeasuredHeap s xs ys zs m f → MeasuredHeap s xs′ ys′ zs′ m′ f′
     → (before after : List Spot) (p : Spot) → spotsOf xs ys zs ≡ before ++ after → spotsOf xs′ ys′ zs′ ≡ before ++ p ∷ after → f .volume ≤ f′ .volume
 unfolding figuresOf

@@ -83,6 +83,7 @@ module _ (s : Site) {ps qs : List Spot} (r : Rearranged ps qs) where
       (λ p q n. add-left-comm (cond (isInside s p) 0 1) (cond (isInside s q) 0 1) n)
       r
 
+  -- THEOREM: nor does the grid
   pub grid-same : gridOf s ps ≡ gridOf s qs
   unfolding gridOf
   grid-same = listOf-same (cellsOf s) (heightAt s ps) (heightAt s qs) (λ c _. heights-same c)
@@ -95,6 +96,7 @@ module _ (s : Site) {ps qs : List Spot} (r : Rearranged ps qs) where
   unfolding volumeOf
   volume-same = sumTo-same (cellsOf s) _ _ (λ c _. ap (λ n. n * (s .cell * s .cell)) (heights-same c))
 
+  -- THEOREM: the figures do not know the order of the points
   pub figures-same : figuresOf s ps ≡ figuresOf s qs
   unfolding figuresOf
   figures-same = cc (volume-same, inside-same, outside-same, empties-same)

@@ -1,4 +1,4 @@
--- `site::above_by` meets its contract. Assumes nothing.
+-- `volume::site::above_by` meets its contract. Assumes nothing.
 use mathlib.Core.Path.{_≡_, sym, ap, ap₂, _∙_}
 use native.Mathlib.Omega.{arith}
 use lib.IntN.{ℤ, pos, natAbs, _-ℤ_}

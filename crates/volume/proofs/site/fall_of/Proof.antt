@@ -1,4 +1,4 @@
--- `site::fall_of` meets its contract. Assumes nothing.
+-- `volume::site::fall_of` meets its contract. Assumes nothing.
 use Prim.Native.Nat.{ℕ, _+_, _*_, _/_, _≤_}
 use mathlib.Core.Path.{_≡_, refl, sym, ap, _∙_}
 use mathlib.Core.Bool.{Bool, true}

@@ -1,4 +1,4 @@
--- `site::height_of` meets its contract. Assumes nothing.
+-- `volume::site::height_of` meets its contract. Assumes nothing.
 use mathlib.Core.Path.{_∙_}
 use Rattle.volume.specs.Rectangle.{Near}
 use Rattle.volume.specs.Heights.{heightOf}

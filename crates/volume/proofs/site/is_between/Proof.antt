@@ -1,4 +1,4 @@
--- `site::is_between` meets its contract. Assumes nothing.
+-- `volume::site::is_between` meets its contract. Assumes nothing.
 use mathlib.Core.Path.{sym, _∙_}
 use lib.Signed.{leZ}
 use mir.Syntax.{w64}

@@ -1,4 +1,4 @@
--- `site::is_multiple` meets its contract. Assumes nothing.
+-- `volume::site::is_multiple` meets its contract. Assumes nothing.
 use native.Mathlib.Omega.{arith}
 use borrow.Author.Needs.{needs}
 use borrow.Author.Tests.{lt-ltb, le-ltb}

@@ -1,4 +1,4 @@
--- `site::is_near` meets its contract. Assumes nothing.
+-- `volume::site::is_near` meets its contract. Assumes nothing.
 use mathlib.Core.Path.{_≡_, sym}
 use mir.Syntax.{w64}
 use mir.Val.{toZ, ofZ}

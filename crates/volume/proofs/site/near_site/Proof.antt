@@ -1,4 +1,4 @@
--- `site::near_site` meets its contract. Assumes nothing.
+-- `volume::site::near_site` meets its contract. Assumes nothing.
 use mathlib.Core.Path.{_≡_, sym, ap, _∙_}
 use mathlib.Core.Bool.{Bool, true, false}
 use lib.IntN.{ℤ}

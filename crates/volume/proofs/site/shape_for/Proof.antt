@@ -1,4 +1,4 @@
--- `site::shape_for` meets its contract. Assumes nothing.
+-- `volume::site::shape_for` meets its contract. Assumes nothing.
 use Prim.Native.Nat.{_*_, _/_}
 use mathlib.Core.Path.{_≡_, sym, ap, ap₂, _∙_}
 use mathlib.Core.Bool.{true, _&&_}
