@@ -1,24 +1,19 @@
 -- The disparity with an index, as a sum of signed numbers: small enough for every type on its way to a float. Assumes nothing.
-use Prim.Native.Nat.{ℕ, suc, _+_, _-_, _<_, _≤_, _^_}
-use mathlib.Core.Path.{_≡_, refl, _∙_}
-use mathlib.Core.Bool.{Bool, true, false, cond}
+use Prim.Native.Nat.{ℕ, _+_, _<_, _≤_, _^_}
+use mathlib.Core.Path.{_≡_, _∙_}
+use native.Mathlib.Nat.{le-trans}
 use native.Mathlib.Omega.{arith}
-use lib.Dec.{T, ltb, leb, le→leb, lt→ltb}
+use lib.Dec.{T, le→leb, lt→ltb}
 use lib.IntN.{ℤ, pos, negsuc, natAbs, _+ℤ_}
 use lib.Ieee.{binary32, inFloat}
-use borrow.Author.Tests.{ltb-true, ltb-false}
 use mir.Syntax.{w32}
 use mir.Val.{SFits, toZ, ofZ}
 use Rattle.options.specs.Limits.{countMost, firstMost}
+use Rattle.lists.proofs.Sizes.{sum-size}
 use mir.ValLaws.{toZ-ofZ, toZ-pos}
 
 pub sum-natAbs : (z : ℤ) (k b : ℕ) → natAbs z + k ≤ b → natAbs (z +ℤ pos k) ≤ b
-sum-natAbs (pos a) k b h = h
-sum-natAbs (negsuc a) k b h = go (ltb k (suc a)) refl
-  where
-    go : (t : Bool) → ltb k (suc a) ≡ t → natAbs (cond t (negsuc (suc a - suc k)) (pos (k - suc a))) ≤ b
-    go true e = omega (arith, ltb-true k (suc a) e)
-    go false e = omega (arith, ltb-false k (suc a) e)
+sum-natAbs z k b h = le-trans (sum-size z (pos k)) h
 
 pub fits-of : (z : ℤ) → natAbs z ≤ 8192 → SFits w32 z
 fits-of (pos a) h = record { sfits = omega arith }

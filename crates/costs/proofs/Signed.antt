@@ -1,10 +1,8 @@
 -- Sizes of signed sums, and the shift of a target column. Assumes nothing.
-use Prim.Native.Nat.{ℕ, zero, suc, _+_, _^_, _≤_, _<_}
-use mathlib.Core.Path.{_≡_, refl, sym, ap, ap₂, _∙_, subst}
-use native.Mathlib.Nat.{le-trans, le-of-eq}
+use Prim.Native.Nat.{ℕ, _≤_, _<_}
+use mathlib.Core.Path.{_≡_, ap₂}
 use native.Mathlib.Omega.{arith}
-use lib.IntN.{ℤ, pos, negsuc, natAbs, negℤ, _+ℤ_, _-ℤ_, +ℤ-comm, +ℤ-idl}
-use lib.Signed.{mag}
+use lib.IntN.{ℤ, pos, natAbs, negℤ, _+ℤ_, _-ℤ_}
 use mir.Syntax.{w64}
 use mir.Val.{SFits, toZ, ofZ}
 use mir.ValLaws.{toZ-ofZ, toZ-pos}
@@ -12,24 +10,13 @@ use Rattle.options.specs.Limits.{countMost, firstMost, shiftMost}
 use Rattle.options.specs.declared.Side.{Side}
 use Rattle.options.specs.declared.Side.the-variants.{Left, Right}
 use Rattle.costs.specs.Raw.{shiftOf}
-use mathlib.Core.Logic.{⊎-elim}
-use borrow.Author.Tests.{lt-ltb, le-ltb}
-use Rattle.lists.proofs.Tests.{lt-or-le}
-use Rattle.windows.proofs.Shifts.{abs-neg, small-fits, none-minus}
-
--- a column moved by s is at most so far off
-moved-most : (x : ℕ) (s : ℤ) → natAbs (pos x +ℤ s) ≤ x + natAbs s
-moved-most x (pos b) = omega arith
-moved-most x (negsuc b) =
-    ⊎-elim
-    (λ (l : x < suc b). rw (lt-ltb x (suc b) l) (omega arith))
-    (λ (l : suc b ≤ x). rw (le-ltb x (suc b) l) (omega arith))
-    (lt-or-le x (suc b))
+use Rattle.lists.proofs.Sizes.{abs-neg, sum-size, small-fits}
+use Rattle.windows.proofs.Shifts.{none-minus}
 
 -- d = first + k
 module _ (first : ℤ) (k : ℕ) (lf : natAbs first ≤ firstMost) (lk : k < countMost) where
   pub sum-most : natAbs (first +ℤ pos k) ≤ shiftMost
-  sum-most = rw (+ℤ-comm first (pos k)) (omega (arith, moved-most k first))
+  sum-most = omega (arith, sum-size first (pos k))
 
   pub shift-most : (side : Side) → natAbs (shiftOf side first k) ≤ shiftMost
   shift-most Left = rw (abs-neg (first +ℤ pos k)) sum-most

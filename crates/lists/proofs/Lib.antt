@@ -1,4 +1,4 @@
--- The laws of the words of specs/.
+-- The laws of the words of specs/, and of signed numbers.
 pub mod Lists
 pub mod Tests
 pub mod Walks
@@ -6,6 +6,7 @@ pub mod Clearing
 pub mod Copying
 pub mod Rows
 pub mod Sums
+pub mod Sizes
 pub mod Stores
 pub mod Stepwise
 pub mod Writes

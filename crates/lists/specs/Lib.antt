@@ -1,4 +1,4 @@
--- The words that several crates use of lists.
+-- The words that several crates use of lists and of sums.
 pub mod Lists
 pub mod Rows
 pub mod Sums

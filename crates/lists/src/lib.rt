@@ -1,4 +1,5 @@
-// What several crates need of lists: specs/ has the words, proofs/ the laws. Here is what they share of code.
+// What several crates need of lists, of sums and of signed numbers: specs/ has the words, proofs/ the laws. Here is what they share
+// of code.
 ghost use mathlib.Core.Path.{_≡_};
 ghost use mathlib.Core.Bool.{false};
 ghost use lib.IntN.{pos};

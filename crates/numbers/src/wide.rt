@@ -1,4 +1,4 @@
-// The same of an `f64`: its magnitude, and rounded to a whole number, halves away from zero.
+// What `plain` and `away` have of an `f32`, of an `f64`: its magnitude, and rounded to a whole number, halves away from zero.
 ghost use mathlib.Core.Path.{_≡_};
 ghost use lib.Ieee.{binary64};
 ghost use Rattle.numbers.specs.Away.{roundedAway};

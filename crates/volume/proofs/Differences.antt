@@ -1,20 +1,22 @@
 -- Signed numbers: how far one lies above another, which lie between two, and which are near. Assumes nothing.
-use Prim.Native.Nat.{ℕ, zero, suc, _+_, _-_, _≤_, zero-le}
+use Prim.Native.Nat.{ℕ, zero, suc, _+_, _≤_, zero-le}
 use mathlib.Core.Path.{_≡_, refl, sym, ap, ap₂, _∙_}
-use mathlib.Core.Bool.{Bool, true, false, not, cond, _&&_, true≢false}
+use mathlib.Core.Bool.{Bool, true, false, not, _&&_, true≢false}
 use native.Mathlib.Nat.{le-refl, le-trans}
 use native.Mathlib.Omega.{arith}
 use borrow.Author.Tests.{ltb-true, ltb-false, leb-true, le-ltb, le-leb, lt-leb}
 use lib.Dec.{leb, ltb, leb·zero, leb·suc-zero, leb·suc-suc}
-use lib.IntN.{ℤ, pos, negsuc, natAbs, negℤ, sucℤ, subℕ, _+ℤ_, _-ℤ_, +ℤ-comm, +ℤ-idl, +ℤ-idr, sucℤ-+ℤ, -ℤ-+ℤ-cancel}
+use lib.IntN.{ℤ, pos, negsuc, natAbs, negℤ, sucℤ, _+ℤ_, _-ℤ_, +ℤ-comm, +ℤ-idl, +ℤ-idr, sucℤ-+ℤ, -ℤ-+ℤ-cancel}
 use lib.Signed.{leZ, ltZ}
 use mir.Syntax.{w64}
 use mir.Val.{SFits, toZ, ofZ}
 use mir.ValLaws.{toZ-ofZ}
 use Rattle.lists.proofs.Tests.{and-both}
+use Rattle.lists.proofs.Sizes.{abs-neg, sum-size, small-fits}
 use Rattle.volume.specs.Metres.{sizeMost, isNear}
-use Rattle.volume.specs.Rectangle.{Near, orZero, above}
+use Rattle.volume.specs.Rectangle.{orZero, above}
 use Rattle.volume.specs.Heights.{isBetween}
+use Rattle.volume.specs.Answers.{Near}
 
 -- ---- comparisons
 
@@ -87,37 +89,18 @@ above-some a b e = some (a -ℤ b) (sym (difference-most a b) ∙ e)
 
 -- ---- sizes
 
-apart-most : (a b : ℕ) → natAbs (subℕ a b) ≤ a + b
-apart-most a b = go (ltb a b) refl
-  where
-    go : (t : Bool) → ltb a b ≡ t → natAbs (cond t (negsuc (b - suc a)) (pos (a - b))) ≤ a + b
-    go true e = omega (arith, ltb-true a b e)
-    go false e = omega arith
-
-sum-most : (a b : ℤ) → natAbs (a +ℤ b) ≤ natAbs a + natAbs b
-sum-most (pos a) (pos b) = le-refl (a + b)
-sum-most (pos a) (negsuc b) = apart-most a (suc b)
-sum-most (negsuc a) (pos b) = omega (arith, apart-most b (suc a))
-sum-most (negsuc a) (negsuc b) = omega arith
-
-opposite-size : (b : ℤ) → natAbs (negℤ b) ≡ natAbs b
-opposite-size (pos zero) = refl
-opposite-size (pos (suc n)) = refl
-opposite-size (negsuc n) = refl
-
 or-zero-most : (d : ℤ) → orZero d ≤ natAbs d
 or-zero-most (pos n) = le-refl n
 or-zero-most (negsuc n) = zero-le
 
 pub above-size : (a b : ℤ) → above a b ≤ natAbs a + natAbs b
 unfolding above
-above-size a b = le-trans (or-zero-most (a -ℤ b)) (omega (arith, sum-most a (negℤ b), opposite-size b))
+above-size a b = le-trans (or-zero-most (a -ℤ b)) (omega (arith, sum-size a (negℤ b), abs-neg b))
 
 -- ---- near numbers
 
 pub near-fits : (v : ℤ) → Near v → SFits w64 v
-near-fits (pos n) l = record { sfits = omega arith }
-near-fits (negsuc n) l = record { sfits = omega arith }
+near-fits v l = small-fits v (omega arith)
 
 -- the test by two comparisons
 pub near-not : (v : ℤ) → ltZ v (negsuc 99999) ≡ true → isNear v ≡ false

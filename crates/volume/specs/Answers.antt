@@ -4,6 +4,7 @@ use mathlib.Core.Path.{_≡_}
 use mathlib.Core.Bool.{true, cond}
 use mathlib.Core.List.{List}
 use lib.ListN.{getD, set}
+use lib.IntN.{ℤ, natAbs}
 use Rattle.lists.specs.Lists.{listOf}
 use Rattle.volume.specs.declared.site.Site.{Site}
 use Rattle.volume.specs.declared.site.Fall.{Fall}
@@ -12,6 +13,10 @@ use Rattle.volume.specs.declared.metres.Spot.{Spot}
 use Rattle.volume.specs.Metres.{sizeMost}
 use Rattle.volume.specs.Rectangle.{above, goodCell, nearSite, goodSides, columnsOf, cellsOf, cellsMost}
 use Rattle.volume.specs.Heights.{isInside, heightAt, isEmpty}
+
+-- a number of millimetres that is not over 100,000 in size
+abbrev pub Near : ℤ → Type 0
+Near v = natAbs v ≤ sizeMost
 
 -- a site that no test refuses, with the number of cells of a row
 pub record Fit (s : Site) (columns : ℕ) : Type 0 where

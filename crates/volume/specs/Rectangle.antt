@@ -1,10 +1,10 @@
 -- The rectangle, its cells, and the tests of a site. Definitions only.
-use Prim.Native.Nat.{ℕ, _*_, _/_, _%_, _≤_}
+use Prim.Native.Nat.{ℕ, _*_, _/_, _%_}
 use mathlib.Core.Bool.{Bool, _&&_}
 use lib.Dec.{leb, ltb, eqb}
-use lib.IntN.{ℤ, pos, negsuc, natAbs, _-ℤ_}
+use lib.IntN.{ℤ, pos, negsuc, _-ℤ_}
 use Rattle.volume.specs.declared.site.Site.{Site}
-use Rattle.volume.specs.Metres.{sizeMost, isNear}
+use Rattle.volume.specs.Metres.{isNear}
 
 -- a whole number, and 0 in place of one below zero
 abbrev pub orZero : ℤ → ℕ
@@ -51,7 +51,3 @@ goodSides s = multiple (wideOf s) (s .cell) && multiple (longOf s) (s .cell)
 -- the most cells
 abbrev pub cellsMost : ℕ
 cellsMost = 65536
-
--- not over 100,000 in size, as a fact
-abbrev pub Near : ℤ → Type 0
-Near v = natAbs v ≤ sizeMost

@@ -4,10 +4,10 @@ ghost use mathlib.Core.Path.{_≡_};
 ghost use mathlib.Core.Bool.{true};
 ghost use Prim.Native.Nat.{_<_};
 ghost use Rattle.volume.specs.Metres.{isNear};
-ghost use Rattle.volume.specs.Rectangle.{Near, above, multiple, nearSite, goodCell, columnsOf};
+ghost use Rattle.volume.specs.Rectangle.{above, multiple, nearSite, goodCell, columnsOf};
 ghost use Rattle.volume.specs.Heights.{isBetween, heightOf};
 ghost use Rattle.volume.specs.Outcome.{shapeFor};
-ghost use Rattle.volume.specs.Answers.{fallOf};
+ghost use Rattle.volume.specs.Answers.{Near, fallOf};
 
 // The largest size of a coordinate, an edge or the floor depth, in millimetres.
 const SIZE_MOST: i64 = 100000;

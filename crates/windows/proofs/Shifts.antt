@@ -1,6 +1,6 @@
 -- A signed shift, and a column moved by it. Assumes nothing.
-use Prim.Native.Nat.{ℕ, zero, suc, _+_, _*_, _^_, _-_, _≤_, _<_, zero-le, min}
-use mathlib.Core.Path.{_≡_, refl, sym, ap, subst, fun-ext}
+use Prim.Native.Nat.{ℕ, zero, suc, _+_, _*_, _-_, _≤_, _<_, zero-le, min}
+use mathlib.Core.Path.{_≡_, sym, ap, subst, fun-ext}
 use mathlib.Core.Bool.{true, false, true≢false}
 use mathlib.Core.List.{List}
 use native.Mathlib.Nat.{mul-le-mul, add-zero}
@@ -10,23 +10,12 @@ use lib.Dec.{T}
 use lib.IntN.{ℤ, pos, negsuc, natAbs, negℤ, _+ℤ_, _-ℤ_, +ℤ-idl}
 use lib.ListN.{length, getD, List·getD-eq-default}
 use lib.Signed.{ltZ, nonNeg}
-use mir.Syntax.{w64}
-use mir.Val.{SFits}
 use Rattle.lists.specs.Rows.{levelAt}
 use Rattle.windows.specs.declared.Overlap.{Overlap}
 use Rattle.windows.specs.Table.{levelIn, squareAt, columnAt, crossIn, crossAt}
 use Rattle.windows.specs.Parts.{overlapOf}
 
 -- ---- a shift's size
-pub abs-neg : (z : ℤ) → natAbs (negℤ z) ≡ natAbs z
-abs-neg (pos zero) = refl
-abs-neg (pos (suc n)) = refl
-abs-neg (negsuc n) = refl
-
-pub small-fits : (z : ℤ) → natAbs z ≤ 2 ^ 62 → SFits w64 z
-small-fits (pos n) l = record { sfits = omega arith }
-small-fits (negsuc n) l = record { sfits = omega arith }
-
 pub none-minus : (z : ℤ) → pos 0 -ℤ z ≡ negℤ z
 none-minus z = +ℤ-idl (negℤ z)
 

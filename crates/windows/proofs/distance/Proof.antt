@@ -6,7 +6,8 @@ use mir.Syntax.{w64}
 use mir.ValLaws.{toZ-ofZ}
 use mir.Val.{SFits, toZ, ofZ}
 use borrow.Author.Needs.{needs}
-use Rattle.windows.proofs.Shifts.{abs-neg, small-fits, none-minus, non-neg, neg-non-neg}
+use Rattle.lists.proofs.Sizes.{abs-neg, small-fits}
+use Rattle.windows.proofs.Shifts.{none-minus, non-neg, neg-non-neg}
 use Rattle.windows.proofs.distance.Statement.{statement}
 use Rattle.windows.proofs.distance.Tie as tie
 

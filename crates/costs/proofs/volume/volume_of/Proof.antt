@@ -15,7 +15,7 @@ use Rattle.options.specs.declared.Side.{Side}
 use Rattle.options.specs.declared.Side.the-variants.{Left, Right}
 use Rattle.costs.specs.Raw.{referenceOf, targetOf}
 use Rattle.costs.specs.Volume.{planesOf, rawVolume}
-use Rattle.windows.proofs.Shifts.{small-fits}
+use Rattle.lists.proofs.Sizes.{small-fits}
 use Rattle.costs.proofs.Outcomes.{planes-volume, swapped}
 use Rattle.costs.proofs.volume.volume_of.Statement.{statement}
 use borrow.Author.Needs.{needs}

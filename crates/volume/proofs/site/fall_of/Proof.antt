@@ -13,9 +13,9 @@ use borrow.Author.Tests.{not-true, not-false}
 use Rattle.volume.specs.declared.site.Site.{Site}
 use Rattle.volume.specs.declared.site.Fall.the-variants as fall
 use Rattle.volume.specs.declared.metres.Spot.{Spot}
-use Rattle.volume.specs.Rectangle.{Near, above, columnsOf}
+use Rattle.volume.specs.Rectangle.{above, columnsOf}
 use Rattle.volume.specs.Heights.{isBetween, isInside}
-use Rattle.volume.specs.Answers.{cellAt, fallOf, heightMost}
+use Rattle.volume.specs.Answers.{Near, cellAt, fallOf, heightMost}
 use Rattle.volume.proofs.Differences.{near-between, near-back, above-back}
 use Rattle.volume.proofs.Cells.{NearSite, near-site, parts-most, cell-some}
 use Rattle.volume.proofs.site.fall_of.Statement.{statement}
