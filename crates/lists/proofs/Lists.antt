@@ -102,3 +102,13 @@ pub any-default : {A : Type 0} (xs : List A) (i : ℕ) (d e : A) → i < length 
 any-default [] i d e h = absurd (not-suc-le-zero h)
 any-default (x ∷ xs) zero d e h = refl
 any-default (x ∷ xs) (suc i) d e h = any-default xs i d e (le-of-suc-le-suc h)
+
+-- one value of a rule changed: it is put in its place
+pub listOf-set : {A : Type 0} (n : ℕ) (f g : ℕ → A) (k : ℕ) → ((i : ℕ) → i < n → (i ≡ k → ⊥) → f i ≡ g i) → set (listOf n f) k (g k) ≡ listOf n g
+unfolding listOf
+listOf-set zero f g k h = refl
+listOf-set (suc n) f g zero h = ap (λ l. g 0 ∷ l) (listOf-same n (λ i. f (suc i)) (λ i. g (suc i)) (λ i l. h (suc i) (omega arith) (λ e. omega arith)))
+listOf-set (suc n) f g (suc k) h =
+    ap₂ (λ v l. v ∷ l)
+    (h 0 (zero-lt-suc n) (λ e. omega arith))
+    (listOf-set n (λ i. f (suc i)) (λ i. g (suc i)) k (λ i l other. h (suc i) (omega arith) (λ e. other (omega arith))))

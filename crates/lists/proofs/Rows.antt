@@ -1,13 +1,15 @@
--- Cells that lie row by row: the column and the row of a cell, and that it is there; rows from the bottom up. Assumes nothing.
+-- Cells that lie row by row: the column and the row of a cell, and that it is there; rows from the bottom up; one cell changed. Assumes nothing.
 use Prim.Native.Nat.{ℕ, zero, suc, _+_, _-_, _*_, _/_, _%_, _<_, _≤_}
 use mathlib.Core.Path.{_≡_, refl, sym, ap, ap₂, _∙_}
 use mathlib.Core.List.{List, [], _∷_, _++_, map, append-nil, append-assoc, map-append}
-use native.Mathlib.Nat.{not-suc-le-zero, mul-le-mul-right, mul-comm, mul-zero, mul-suc, suc-mul, zero-mul, add-zero, mul-add-mod-self-right, mod-eq-of-lt, mul-add-div-right, div-eq-of-lt, div-lt-iff-lt-mul}
+use mathlib.Core.Logic.{⊎-elim}
+use native.Mathlib.Nat.{not-suc-le-zero, mul-le-mul-right, mul-comm, mul-zero, mul-suc, suc-mul, zero-mul, add-zero, add-comm, mul-add-mod-self-right, mod-eq-of-lt, mul-add-div-right, div-eq-of-lt, div-lt-iff-lt-mul}
 use native.Mathlib.Numerals.{sub-one}
 use native.Mathlib.Omega.{arith}
-use lib.ListN.{length, getD, take, drop, length-append, length-drop, take-append-drop}
-use lib.Seq.{getD-take, getD-drop, length-take-le, take-all, take-at, take-append-le, drop-append-le, drop-append-add}
+use lib.ListN.{length, getD, set, take, drop, length-append, length-drop, take-append-drop}
+use lib.Seq.{getD-take, getD-drop, length-take-le, take-all, take-at, take-append-le, drop-append-le, drop-append-add, drop-drop, take-set-le, take-set-lt, drop-set-lt, drop-set-add}
 use Rattle.lists.specs.Rows.{rowOf, bottomUp}
+use Rattle.lists.proofs.Tests.{lt-or-le}
 
 -- cell y * w + x of rows of w cells is in column x of row y
 pub in-column : (w x y : ℕ) → x < w → (y * w + x) % w ≡ x
@@ -41,6 +43,10 @@ row-below w h p l = div-lt-iff-lt-mul (mul-pos-left p w h l) .1 (omega (arith, m
 -- cell x of row y is the list's cell y * w + x
 pub row-at : {A : Type 0} (w : ℕ) (cells : List A) (y x : ℕ) (d : A) → x < w → getD (rowOf w cells y) x d ≡ getD cells (y * w + x) d
 row-at w cells y x d l = getD-take w _ x d l ∙ getD-drop (y * w) cells x d
+
+-- row y of what follows the first row is row y + 1
+pub row-next : {A : Type 0} (w : ℕ) (cells : List A) (y : ℕ) → rowOf w (drop w cells) y ≡ rowOf w cells (suc y)
+row-next w cells y = rw (drop-drop, suc-mul, add-comm w (y * w))
 
 -- ---- rows from the bottom up
 
@@ -160,3 +166,24 @@ module _ {A : Type 0} (w h : ℕ) (cells : List A) where
         bottomUp-length w (suc y) cells (omega (arith, suc-mul y w)),
       ) in
       record { next = rw sub-one (omega arith); passed = omega (arith, mul-suc w y) }
+
+-- ---- one cell changed
+
+-- the cell is changed in its own row
+pub row-set : {A : Type 0} (w : ℕ) (cells : List A) (y x : ℕ) (v : A) → x < w → rowOf w (set cells (y * w + x) v) y ≡ set (rowOf w cells y) x v
+row-set w cells y x v l = rw (drop-set-add, take-set-lt)
+
+-- and every other row is as it was
+pub row-set-other : {A : Type 0} (w : ℕ) (cells : List A) (y x : ℕ) (v : A) (i : ℕ) → x < w → (i ≡ y → ⊥) → rowOf w (set cells (y * w + x) v) i ≡ rowOf w cells i
+row-set-other w cells y x v i l other = ⊎-elim above below (lt-or-le i y)
+  where
+    above : i < y → rowOf w (set cells (y * w + x) v) i ≡ rowOf w cells i
+    above h =
+        let past : w ≤ y * w + x - i * w = omega (arith, row-in i y w (y * w) h (omega arith)) in
+        let split : y * w + x ≡ i * w + (y * w + x - i * w) = omega arith in
+        rw (split, drop-set-add, take-set-le)
+
+    below : y ≤ i → rowOf w (set cells (y * w + x) v) i ≡ rowOf w cells i
+    below h =
+        let before : y * w + x < i * w = omega (arith, cell-in y i x w (i * w) (omega arith) l (omega arith)) in
+        rw drop-set-lt
