@@ -1,5 +1,5 @@
 -- What the proofs of a map's functions share: what a good size says, where a pixel's cell lies, and one step of a loop over the cells. Assumes nothing.
-use mathlib.Core.Path.{_≡_, refl, sym, ap, _∙_}
+use mathlib.Core.Path.{_≡_, sym, ap, _∙_}
 use Prim.Native.Nat.{ℕ, suc, _+_, _*_, _/_, _≤_, _<_}
 use native.Mathlib.Nat.{mul-le-mul}
 use native.Mathlib.Numerals.{add-one}
@@ -18,10 +18,11 @@ use Rattle.options.specs.Limits.{sideMost}
 use Rattle.maps.specs.declared.Got.the-variants as got
 use Rattle.maps.specs.declared.Validity.the-variants as validity
 use Rattle.maps.specs.declared.Number.the-variants as number
-use Rattle.maps.specs.declared.Extent.{Extent}
+use Rattle.maps.specs.declared.Range.{Range}
+use Rattle.maps.specs.declared.Range.the-variants as range
 use Rattle.maps.specs.declared.Extent.the-variants as extent
 use Rattle.maps.specs.Cells.{cellOf}
-use Rattle.maps.specs.Map.{goodSize, inside, gotAt, validAt, valids, validCount, coverOf, lesserOf, greaterOf, widen, widens, validRange}
+use Rattle.maps.specs.Map.{goodSize, inside, gotAt, validAt, valids, validCount, coverOf, lesserOf, greaterOf, widen, widens, rangeOf, extentOf, validRange}
 
 -- a map of a good size
 pub record Good (w h n : ℕ) : Type 0 where
@@ -73,7 +74,7 @@ module _ (cells : List Float) (i : ℕ) (b : i < length cells) where
   pub valids-same : (t : Bool) → t ≡ finite (getD cells i nan) → t ≡ false → valids (drop i cells) ≡ valids (drop (i + 1) cells)
   valids-same t e h = omega (arith, valids-step ∙ ap (λ (u : Bool). cond u 1 0 + valids (drop (i + 1) cells)) (sym e ∙ h))
 
-  pub widens-step : (r : Extent) → widens r (drop i cells) ≡ widens (widen r (getD cells i nan)) (drop (i + 1) cells)
+  pub widens-step : (r : Range) → widens r (drop i cells) ≡ widens (widen r (getD cells i nan)) (drop (i + 1) cells)
   unfolding widens
   widens-step r = rw (add-one, drop-cons cells i nan)
 
@@ -81,7 +82,7 @@ pub valids-end : (cells : List Float) (i : ℕ) → i ≡ length cells → valid
 unfolding valids
 valids-end cells i e = rw (e, drop-length)
 
-pub widens-end : (cells : List Float) (i : ℕ) (r : Extent) → i ≡ length cells → widens r (drop i cells) ≡ r
+pub widens-end : (cells : List Float) (i : ℕ) (r : Range) → i ≡ length cells → widens r (drop i cells) ≡ r
 unfolding widens
 widens-end cells i r e = rw (e, drop-length)
 
@@ -156,26 +157,21 @@ module _ (w h : ℕ) (cells : List Float) (t : Bool) (e : t ≡ goodSize w h (le
   unfolding validRange
   range-23 q = rw (no q)
 
-  pub range-is : t ≡ true → widens extent.None cells ≡ validRange w h cells
+  pub range-is : t ≡ true → extentOf (rangeOf cells) ≡ validRange w h cells
   unfolding validRange
   range-is q = rw (yes q)
 
 -- a range widened by a number, by the tests
-module _ (r : Extent) (x : Float) (t : Bool) (e : t ≡ finite x) where
-  pub widen-none : t ≡ true → r ≡ extent.None → extent.Span x x ≡ widen r x
+module _ (r : Range) (x : Float) (t : Bool) (e : t ≡ finite x) where
+  pub widen-none : t ≡ true → r ≡ range.None → range.Span x x ≡ widen r x
   unfolding widen
   widen-none q k = rw (k, sym e ∙ q)
 
-  pub widen-span : t ≡ true → (lo hi lo′ hi′ : Float) → r ≡ extent.Span lo hi → lo′ ≡ lesserOf x lo → hi′ ≡ greaterOf x hi → extent.Span lo′ hi′ ≡ widen r x
+  pub widen-span : t ≡ true → (lo hi lo′ hi′ : Float) → r ≡ range.Span lo hi → lo′ ≡ lesserOf x lo → hi′ ≡ greaterOf x hi → range.Span lo′ hi′ ≡ widen r x
   unfolding widen
   widen-span q lo hi lo′ hi′ k a b = rw (k, sym e ∙ q, a, b)
 
-  pub widen-refused : t ≡ true → (n : ℕ) → r ≡ extent.Refused n → extent.Refused n ≡ widen r x
-  unfolding widen
-  widen-refused q n k = rw (k)
-
-pub widen-not : (r : Extent) (x : Float) (t : Bool) → t ≡ finite x → t ≡ false → r ≡ widen r x
+pub widen-not : (r : Range) (x : Float) (t : Bool) → t ≡ finite x → t ≡ false → r ≡ widen r x
 unfolding widen
-widen-not extent.None x t e q = rw (sym e ∙ q)
-widen-not (extent.Span lo hi) x t e q = rw (sym e ∙ q)
-widen-not (extent.Refused n) x t e q = refl
+widen-not range.None x t e q = rw (sym e ∙ q)
+widen-not (range.Span lo hi) x t e q = rw (sym e ∙ q)

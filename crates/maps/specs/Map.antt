@@ -13,6 +13,8 @@ use Rattle.maps.specs.declared.Validity.{Validity}
 use Rattle.maps.specs.declared.Validity.the-variants as validity
 use Rattle.maps.specs.declared.Number.{Number}
 use Rattle.maps.specs.declared.Number.the-variants as number
+use Rattle.maps.specs.declared.Range.{Range}
+use Rattle.maps.specs.declared.Range.the-variants as range
 use Rattle.maps.specs.declared.Extent.{Extent}
 use Rattle.maps.specs.declared.Extent.the-variants as extent
 use Rattle.maps.specs.Cells.{cellOf}
@@ -57,15 +59,23 @@ unfoldable pub greaterOf : Float → Float → Float
 greaterOf x greatest = cond (lt greatest x) x greatest
 
 -- the least and the greatest once a further cell is seen
-unfoldable pub widen : Extent → Float → Extent
-widen extent.None x = cond (finite x) (extent.Span x x) extent.None
-widen (extent.Span lo hi) x = cond (finite x) (extent.Span (lesserOf x lo) (greaterOf x hi)) (extent.Span lo hi)
-widen (extent.Refused n) x = extent.Refused n
+unfoldable pub widen : Range → Float → Range
+widen range.None x = cond (finite x) (range.Span x x) range.None
+widen (range.Span lo hi) x = cond (finite x) (range.Span (lesserOf x lo) (greaterOf x hi)) (range.Span lo hi)
 
 -- the same of a list of further cells, in their order
-unfoldable pub widens : Extent → List Float → Extent
+unfoldable pub widens : Range → List Float → Range
 widens r [] = r
 widens r (c ∷ cs) = widens (widen r c) cs
 
+-- the least and the greatest of the valid ones among cells
+abbrev pub rangeOf : List Float → Range
+rangeOf cells = widens range.None cells
+
+-- the same as a map's answer
+abbrev pub extentOf : Range → Extent
+extentOf range.None = extent.None
+extentOf (range.Span lo hi) = extent.Span lo hi
+
 unfoldable pub validRange : ℕ → ℕ → List Float → Extent
-validRange w h cells = cond (goodSize w h (length cells)) (widens extent.None cells) (extent.Refused 23)
+validRange w h cells = cond (goodSize w h (length cells)) (extentOf (rangeOf cells)) (extent.Refused 23)

@@ -4,7 +4,7 @@ use numbers::plain::is_finite;
 use options::SIDE_MOST;
 ghost use mathlib.Core.Path.{_≡_};
 ghost use Rattle.maps.specs.Cells.{inBuffer, cellOf};
-ghost use Rattle.maps.specs.Map.{goodSize, gotAt, validAt, valids, validCount, coverOf, lesserOf, greaterOf, widen, widens, validRange};
+ghost use Rattle.maps.specs.Map.{goodSize, gotAt, validAt, valids, validCount, coverOf, lesserOf, greaterOf, widen, rangeOf, validRange};
 
 // One cell of a map: the mark of a cell that has no number, or a number.
 pub enum Cell {
@@ -49,7 +49,13 @@ pub enum Number {
     Refused(u8),
 }
 
-// The least and the greatest valid number.
+// The least and the greatest valid number of some cells, where one is valid.
+pub enum Range {
+    None,
+    Span(f32, f32),
+}
+
+// The least and the greatest valid number of a map.
 pub enum Extent {
     None,
     Span(f32, f32),
@@ -126,7 +132,7 @@ pub fn count_valid(width: usize, height: usize, cells: &[f32]) -> Number
 }
 
 // How many numbers of a slice are finite.
-fn valids_in(cells: &[f32]) -> usize
+pub fn valids_in(cells: &[f32]) -> usize
     ensures { λ r. ⌜ r ≡ valids (now (cells .entry)) ⌝ }
 {
     let mut n: usize = 0;
@@ -167,18 +173,17 @@ fn greater(x: f32, greatest: f32) -> f32
 }
 
 // The least and the greatest once a further number is seen.
-fn widened(range: Extent, x: f32) -> Extent
+fn widened(range: Range, x: f32) -> Range
     ensures { λ r. ⌜ r ≡ widen range x ⌝ }
 {
     if is_finite(x) {
         match range {
-            Extent::None => Extent::Span(x, x),
-            Extent::Span(lo, hi) => {
+            Range::None => Range::Span(x, x),
+            Range::Span(lo, hi) => {
                 let least = lesser(x, lo);
                 let greatest = greater(x, hi);
-                Extent::Span(least, greatest)
+                Range::Span(least, greatest)
             }
-            Extent::Refused(n) => Extent::Refused(n),
         }
     } else {
         range
@@ -186,10 +191,10 @@ fn widened(range: Extent, x: f32) -> Extent
 }
 
 // The least and the greatest of a slice's valid numbers.
-fn range_in(cells: &[f32]) -> Extent
-    ensures { λ r. ⌜ r ≡ widens Extent.None (now (cells .entry)) ⌝ }
+pub fn range_in(cells: &[f32]) -> Range
+    ensures { λ r. ⌜ r ≡ rangeOf (now (cells .entry)) ⌝ }
 {
-    let mut range = Extent::None;
+    let mut range = Range::None;
     let mut i: usize = 0;
     while i < cells.len() {
         range = widened(range, cells[i]);
@@ -203,7 +208,10 @@ pub fn range_valid(width: usize, height: usize, cells: &[f32]) -> Extent
     ensures { λ r. ⌜ r ≡ validRange width height (now (cells .entry)) ⌝ }
 {
     if size_good(width, height, cells.len()) {
-        range_in(cells)
+        match range_in(cells) {
+            Range::None => Extent::None,
+            Range::Span(lo, hi) => Extent::Span(lo, hi),
+        }
     } else {
         Extent::Refused(23)
     }

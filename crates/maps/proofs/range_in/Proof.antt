@@ -4,8 +4,8 @@ use Prim.Native.Nat.{_+_, _≤_, _<_, _-_}
 use native.Mathlib.Omega.{arith}
 use borrow.Author.Needs.{needs}
 use lib.ListN.{length, drop}
-use Rattle.maps.specs.declared.Extent.{Extent}
-use Rattle.maps.specs.declared.Extent.the-variants.{None}
+use Rattle.maps.specs.declared.Range.{Range}
+use Rattle.maps.specs.declared.Range.the-variants.{None}
 use Rattle.maps.specs.Map.{widens}
 use Rattle.maps.proofs.Facts.{widens-step, widens-end}
 use Rattle.maps.proofs.range_in.Statement.{statement}
@@ -40,7 +40,7 @@ loop-again c =
     let s = c .before .before .before .before .before .args .cells .now in
     let i = c .before .before .before .loop .i in
     let b : i < length s = omega arith in
-    (omega arith, ap (λ (r : Extent). widens r (drop (i + 1) s)) (c .widened .ensures) ∙ (sym (widens-step s i b _) ∙ c .before .before .before .loop .inv .1))
+    (omega arith, ap (λ (r : Range). widens r (drop (i + 1) s)) (c .widened .ensures) ∙ (sym (widens-step s i b _) ∙ c .before .before .before .loop .inv .1))
 
 returns : tie.Need-returns Inv-loop μ-loop
 returns c = sym (widens-end (c .before .before .before .args .cells .now) (c .before .loop .i) _ (omega arith)) ∙ c .before .loop .inv .1

@@ -1,6 +1,6 @@
 -- `maps::widened` meets its contract: each test picks the definition's case. Assumes nothing.
 use borrow.Author.Needs.{needs}
-use Rattle.maps.proofs.Facts.{widen-none, widen-span, widen-refused, widen-not}
+use Rattle.maps.proofs.Facts.{widen-none, widen-span, widen-not}
 use Rattle.maps.proofs.widened.Statement.{statement}
 use Rattle.maps.proofs.widened.Tie as tie
 
@@ -19,9 +19,6 @@ lesser-requires c κs = search needs
 greater-requires : tie.Need-greater-requires
 greater-requires c κs = search needs
 
-enum-known-range-2 : tie.Need-enum-known-range-2
-enum-known-range-2 c = search needs
-
 returns : tie.Need-returns
 returns c = widen-none _ _ _ (c .before .before .before .is-finite .ensures) (c .before .before .if1 .taken) (c .enum-told .given .1)
 
@@ -29,10 +26,7 @@ returns-2 : tie.Need-returns-2
 returns-2 c = widen-span _ _ _ (c .before .before .before .before .before .before .is-finite .ensures) (c .before .before .before .before .before .if1 .taken) _ _ _ _ (c .before .before .before .range .given .1) (c .before .lesser .ensures) (c .greater .ensures)
 
 returns-3 : tie.Need-returns-3
-returns-3 c = widen-refused _ _ _ (c .before .before .before .before .is-finite .ensures) (c .before .before .before .if1 .taken) _ (c .before .range2 .given .1)
-
-returns-4 : tie.Need-returns-4
-returns-4 c = widen-not _ _ _ (c .before .is-finite .ensures) (c .if1 .left)
+returns-3 c = widen-not _ _ _ (c .before .is-finite .ensures) (c .if1 .left)
 
 pub widened-spec : {M : Type 1} → statement M
 widened-spec =
@@ -43,8 +37,6 @@ widened-spec =
     enum-known-range
     lesser-requires
     greater-requires
-    enum-known-range-2
     returns
     returns-2
-    returns-3
-    returns-4)
+    returns-3)
