@@ -7,7 +7,9 @@ use Rattle.options.specs.declared.BlockMatchOptions.{BlockMatchOptions}
 use Rattle.options.specs.declared.Side.{Side}
 use Rattle.options.specs.declared.Side.the-variants.{Left, Right}
 use Rattle.options.specs.Options.{defaultOptions}
+use Rattle.maps.specs.Cells.{cellOf}
 use Rattle.points.specs.declared.Intrinsics.{Intrinsics}
+use Rattle.rows.specs.declared.Edit.{Edit}
 use Rattle.volume.specs.declared.site.Site.{Site}
 
 -- which picture is the reference
@@ -54,3 +56,7 @@ intrinsicsOf fx fy cx cy baseline = record { fx = fx; fy = fy; cx = cx; cy = cy;
 -- the rectangle, the side of a cell and the floor's depth, one parameter each
 abbrev pub siteOf : ℤ → ℤ → ℤ → ℤ → ℕ → ℤ → Site
 siteOf left right top bottom cell floor = record { left = left; right = right; top = top; bottom = bottom; cell = cell; floor = floor }
+
+-- the edit of a pixel to a number, whose NaN is the mark
+abbrev pub editOf : ℕ → ℕ → Float → Edit
+editOf x y v = record { x = x; y = y; value = cellOf v }

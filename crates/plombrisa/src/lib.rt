@@ -5,6 +5,7 @@ pub mod heap;
 pub mod map;
 pub mod picture;
 pub mod point;
+pub mod row;
 pub mod sheet;
 pub mod told;
 
