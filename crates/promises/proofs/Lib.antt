@@ -1,4 +1,4 @@
--- Demand 3: `Demand` has the theorem, `Examples` its worked pairs, and the modules before it what it leans on. `Refused`, `FilesRefused` and `HeapsRefused`: the numbers given back. `Counted`: the points of a map, measured. `Outcomes`: each call has one outcome.
+-- Demand 3: `Demand` has the theorem, `Examples` its worked pairs, and the modules before it what it leans on. `Refused`, `FilesRefused`, `HeapsRefused` and `RowsRefused`: the numbers given back. `Counted`: the points of a map, measured. `Outcomes`: each call has one outcome.
 pub mod Pairs
 pub mod Blank
 pub mod Maps
@@ -10,5 +10,6 @@ pub mod Examples
 pub mod Refused
 pub mod FilesRefused
 pub mod HeapsRefused
+pub mod RowsRefused
 pub mod Counted
 pub mod Outcomes

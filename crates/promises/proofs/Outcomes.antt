@@ -27,6 +27,10 @@ use Rattle.points.specs.declared.PointRecord.{PointRecord}
 use Rattle.points.specs.declared.Filled.{Filled}
 use Rattle.points.specs.Point.{pointOf}
 use Rattle.points.specs.Records.{answerOf, listAfter}
+use Rattle.maps.specs.declared.Range.{Range}
+use Rattle.rows.specs.declared.RowRecord.{RowRecord}
+use Rattle.rows.specs.declared.Edit.{Edit}
+use Rattle.rows.specs.Index.{rangeIn, FreshDone, EditDone}
 use Rattle.costs.specs.Outcome.{rawCall, RawDone}
 use Rattle.costs.proofs.Outcomes as costs
 use Rattle.matching.specs.Outcome.{matchCall, MatchDone}
@@ -126,6 +130,18 @@ pub points : (w h : ℕ) (cells : List Float) (k : Intrinsics) (list : List Poin
     → (r′ ≡ answerOf w h cells k (length list)) × (list₂ ≡ listAfter w h cells k list)
     → (r ≡ r′) × (list₁ ≡ list₂)
 points w h cells k list r r′ list₁ list₂ e e′ = (both (e .0) (e′ .0), both (e .1) (e′ .1))
+
+-- a row's record: its range; a fresh index, and an edit, with the map and the index afterwards
+pub range : (record-of-row : RowRecord) (r r′ : Range) → r ≡ rangeIn record-of-row → r′ ≡ rangeIn record-of-row → r ≡ r′
+range record-of-row r r′ = both
+
+pub fresh-index : (w h : ℕ) (cells : List Float) (index : List RowRecord) (n n′ : ℕ) (index₁ index₂ : List RowRecord)
+    → FreshDone n w h cells index index₁ → FreshDone n′ w h cells index index₂ → (n ≡ n′) × (index₁ ≡ index₂)
+fresh-index w h cells index n n′ index₁ index₂ e e′ = (both (e .answer) (e′ .answer), both (e .records) (e′ .records))
+
+pub edit-cell : (w h : ℕ) (change : Edit) (cells : List Float) (index : List RowRecord) (n n′ : ℕ) (cells₁ cells₂ : List Float) (index₁ index₂ : List RowRecord)
+    → EditDone n w h change cells cells₁ index index₁ → EditDone n′ w h change cells cells₂ index index₂ → (n ≡ n′) × (cells₁ ≡ cells₂) × (index₁ ≡ index₂)
+edit-cell w h change cells index n n′ cells₁ cells₂ index₁ index₂ e e′ = (both (e .answer) (e′ .answer), both (e .map) (e′ .map), both (e .records) (e′ .records))
 
 -- a map's sheet: how long it is, and written, with the output afterwards
 pub sheet-length : (kind w h : ℕ) (cells : List Float) (r r′ : Written) → r ≡ byteCount (sheetOf kind w h cells) → r′ ≡ byteCount (sheetOf kind w h cells) → r ≡ r′

@@ -5,3 +5,4 @@ pub mod Answered
 pub mod Witnesses
 pub mod FileWitnesses
 pub mod HeapWitnesses
+pub mod RowWitnesses
