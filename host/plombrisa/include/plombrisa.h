@@ -103,4 +103,20 @@ uint32_t plombrisa_heap_volume(
     int64_t left, int64_t right, int64_t top, int64_t bottom, size_t cell, int64_t floor,
     uint64_t *grid, size_t grid_len, uint64_t *volume, uint64_t *inside, uint64_t *outside, uint64_t *empty);
 
+/* What the index beside a map holds of one row: how many of its cells are valid, and the least and the greatest of those, which are
+ * NaN, the mark, where none is. */
+typedef struct plombrisa_row_record {
+    size_t count;
+    float least;
+    float greatest;
+} plombrisa_row_record;
+
+/* The index has one record for each row, from the first row on. The first works it out from the cells. The second edits one cell, a
+ * NaN being the mark, and works out the record of its row, and of no other: it reads one row, not the map. */
+uint32_t plombrisa_fresh_index(
+    const float *cells, size_t cells_len, size_t width, size_t height, plombrisa_row_record *index, size_t index_len);
+uint32_t plombrisa_edit_cell(
+    float *cells, size_t cells_len, size_t width, size_t height, size_t x, size_t y, float value,
+    plombrisa_row_record *index, size_t index_len);
+
 #endif

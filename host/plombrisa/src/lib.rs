@@ -1,11 +1,12 @@
 //! Plombrisa from Rust: safe functions over the exports of the proved library. Names and order of the exports are fixed in
-//! crates/plombrisa/src; nothing checks these declarations against them but the differential runs, the sheets' run, Netpbm's and the
-//! volume's.
+//! crates/plombrisa/src; nothing checks these declarations against them but the differential runs, the sheets' run, Netpbm's, the
+//! volume's and the row index's.
 
 mod maps;
 mod netpbm;
 mod pictures;
 mod points;
+mod rows;
 mod sheets;
 mod volume;
 
@@ -16,11 +17,12 @@ pub use netpbm::{
 };
 pub use pictures::{bilinear, bilinear_in, pixel, pixel_in};
 pub use points::{Intrinsics, PointRecord, points, points_in, rectified_point, rectified_point_in};
+pub use rows::{RowIndex, RowRecord, edit_cell_in, fresh_index_in};
 pub use sheets::{Kind, Sheet, read_sheet, read_sheet_in, sheet_length_in, sheet_size_in, write_sheet, write_sheet_in};
 pub use volume::{Figures, Heap, Site, heap_shape, heap_shape_in, heap_volume, heap_volume_in};
 
 mod raw {
-    use crate::PointRecord;
+    use crate::{PointRecord, RowRecord};
 
     #[allow(improper_ctypes)]
     unsafe extern "C" {
@@ -120,6 +122,15 @@ mod raw {
             left: i64, right: i64, top: i64, bottom: i64, cell: usize, floor: i64,
             grid: *mut u64, grid_len: usize, volume: *mut u64, inside: *mut u64, outside: *mut u64, empty: *mut u64,
         ) -> u32;
+
+        pub fn plombrisa_fresh_index(
+            cells: *const f32, cells_len: usize, width: usize, height: usize, index: *mut RowRecord, index_len: usize,
+        ) -> u32;
+
+        pub fn plombrisa_edit_cell(
+            cells: *mut f32, cells_len: usize, width: usize, height: usize, x: usize, y: usize, value: f32,
+            index: *mut RowRecord, index_len: usize,
+        ) -> u32;
     }
 }
 
@@ -165,8 +176,8 @@ impl Default for Options {
     }
 }
 
-/// Why a call was refused: the rows of the table of document 01, and from 31 those that sheets, from 41 those that PGM and PFM
-/// files and from 51 those that the heap's volume added, each with its number.
+/// Why a call was refused: the rows of the table of document 01, and 28, which the row index added, from 31 those that sheets, from
+/// 41 those that PGM and PFM files and from 51 those that the heap's volume added, each with its number.
 #[derive(Debug, Clone, Copy, PartialEq, Eq)]
 #[repr(u32)]
 pub enum Refusal {
@@ -188,6 +199,7 @@ pub enum Refusal {
     ListTooShort = 24,
     CoordinateNan = 25,
     PixelOutside = 26,
+    IndexLength = 28,
     CellInfinite = 31,
     CellNotWhole = 32,
     OutputTooShort = 33,
@@ -219,7 +231,7 @@ impl Refusal {
         let all = [
             SizeOutOfRange, ByteCount, SizesDiffer, BlockEven, BlockTooLarge, CountNotPositive, CountTooLarge,
             PictureSmallerThanBlock, FirstOutOfRange, PenaltyOutOfRange, OutputLength, RoomTooShort,
-            CameraOutOfRange, BaselineOutOfRange, MapSize, ListTooShort, CoordinateNan, PixelOutside,
+            CameraOutOfRange, BaselineOutOfRange, MapSize, ListTooShort, CoordinateNan, PixelOutside, IndexLength,
             CellInfinite, CellNotWhole, OutputTooShort, NumberUnfit, VersionOrKindUnknown, SheetSize, CellNumber, BytesLeftOver,
             FileHeader, FileMaximum, FileSize, FileData, FileOutput,
             CellSide, DistanceOutOfRange, RectangleSides, TooManyCells, GridLength,
@@ -249,6 +261,7 @@ impl Refusal {
             ListTooShort => "the list is shorter than the points to write",
             CoordinateNan => "a coordinate is NaN",
             PixelOutside => "the pixel is outside the picture or the map",
+            IndexLength => "the index's length is not the number of rows",
             CellInfinite => "a cell is infinite",
             CellNotWhole => "a cell is minus zero, a fraction, or outside -8,192 to 8,192",
             OutputTooShort => "the output is too short for the sheet",

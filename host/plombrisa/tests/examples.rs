@@ -18,7 +18,7 @@ fn printed(command: &mut Command) -> String {
 #[test]
 fn the_readme_shows_them() {
     let readme = read_to_string(repository().join("README.md")).expect("README.md");
-    for name in ["match.c", "match.rs", "sheet.rs", "netpbm.rs", "volume.rs"] {
+    for name in ["match.c", "match.rs", "sheet.rs", "netpbm.rs", "volume.rs", "rows.rs"] {
         let text = read_to_string(repository().join("host/plombrisa/examples").join(name)).expect(name);
         assert!(readme.contains(&text), "README.md does not show {name} as it is");
     }
@@ -70,4 +70,7 @@ fn the_rust_examples_run() {
     assert_eq!(printed_by_example("netpbm"), "3 by 1: [97, 98, 99]\n2 by 1: [NaN, 4.5]\n");
     let figures = "Figures { volume: 187500000, inside: 3, outside: 1, empty: 0 }";
     assert_eq!(printed_by_example("volume"), format!("2 by 1: [500, 250], {figures}\n"));
+    let before = "row 0: RowRecord { count: 2, least: 0.5, greatest: 4.0 }; 5 cells are valid";
+    let after = "row 0: RowRecord { count: 1, least: 4.0, greatest: 4.0 }; 4 cells are valid";
+    assert_eq!(printed_by_example("rows"), format!("{before}\n{after}\n"));
 }

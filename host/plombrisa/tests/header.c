@@ -97,5 +97,21 @@ int main(void) {
     if (plombrisa_heap_volume(xs, 4, ys, 4, zs, 4, 0, 30, 0, 20, 10, 1000, grid, 6, &measured, &inside, &outside, &empty) != 0) return 44;
     if (measured != 30000 || inside != 3 || outside != 1 || empty != 4) return 45;
     if (grid[0] != 100 || grid[1] != 0 || grid[2] != 0 || grid[3] != 0 || grid[4] != 0 || grid[5] != 200 || grid[6] != 77) return 46;
+
+    /* 3 by 2, the second row without a valid cell, and a record more than there are rows */
+    float viewed[6] = {4, NAN, 0.5f, INFINITY, NAN, NAN};
+    plombrisa_row_record index[3] = {{7, 7, 7}, {7, 7, 7}, {77, 77, 77}};
+    if (plombrisa_fresh_index(viewed, 6, 2, 2, index, 2) != 23 || plombrisa_fresh_index(viewed, 6, 3, 2, index, 3) != 28) return 47;
+    if (index[0].count != 7 || index[0].least != 7 || index[0].greatest != 7 || index[1].count != 7) return 48;
+    if (plombrisa_fresh_index(viewed, 6, 3, 2, index, 2) != 0) return 49;
+    if (index[0].count != 2 || index[0].least != 0.5f || index[0].greatest != 4) return 50;
+    if (index[1].count != 0 || !isnan(index[1].least) || !isnan(index[1].greatest) || index[2].count != 77) return 51;
+    if (plombrisa_edit_cell(viewed, 6, 3, 2, 2, 2, 1, index, 1) != 26) return 52;
+    if (plombrisa_edit_cell(viewed, 6, 3, 2, 2, 1, 1, index, 1) != 28) return 53;
+    if (!isnan(viewed[5]) || index[0].count != 2 || index[1].count != 0) return 54;
+    if (plombrisa_edit_cell(viewed, 6, 3, 2, 2, 1, -2, index, 2) != 0 || viewed[5] != -2) return 55;
+    if (index[1].count != 1 || index[1].least != -2 || index[1].greatest != -2 || index[0].count != 2) return 56;
+    if (plombrisa_edit_cell(viewed, 6, 3, 2, 2, 0, NAN, index, 2) != 0 || !isnan(viewed[2]) || viewed[5] != -2) return 57;
+    if (index[0].count != 1 || index[0].least != 4 || index[0].greatest != 4 || index[1].count != 1 || index[2].count != 77) return 58;
     return 0;
 }

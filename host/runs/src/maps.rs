@@ -27,7 +27,7 @@ impl Output {
 pub type Number = fn(&mut Rng) -> f32;
 
 /// A NaN of any sign and payload.
-fn nan(rng: &mut Rng) -> f32 {
+pub fn nan(rng: &mut Rng) -> f32 {
     let any = 1 + rng.below(0x007F_FFFF) as u32;
     let payload = rng.pick(&[1, 0x0040_0000, 0x007F_FFFF, any]);
     f32::from_bits(rng.pick(&[0x7F80_0000, 0xFF80_0000]) | payload)

@@ -23,6 +23,11 @@ impl Tally {
         Self { seed, recipes: BTreeMap::new(), calls }
     }
 
+    /// Recipes that have to come, each at least once.
+    pub fn expect(&mut self, recipes: impl IntoIterator<Item = &'static str>) {
+        self.recipes.extend(recipes.into_iter().map(|recipe| (recipe, 0)));
+    }
+
     /// Counts the number that an input was answered; a difference between the two sides ends the run.
     pub fn count(&mut self, call: &'static str, recipe: &'static str, input: &impl Debug, answer: Result<u32, String>) {
         let number = answer.unwrap_or_else(|why| {
@@ -34,13 +39,13 @@ impl Tally {
         *call.answers.entry(number).or_default() += 1;
     }
 
-    /// Prints the counts, and ends the run where some refusal was never answered, for then the inputs were too few to say anything
-    /// of it.
+    /// Prints the counts, and ends the run where some expected recipe never came or some refusal was never answered, for then the
+    /// inputs were too few to say anything of it.
     pub fn report(&self) {
         for (recipe, n) in &self.recipes {
             println!("{n:>9} {recipe}");
         }
-        let mut missing = false;
+        let mut missing = self.recipes.values().any(|&n| n == 0);
         for Call { name, refusals, answers } in &self.calls {
             let times = |number: &u32| answers.get(number).copied().unwrap_or(0);
             let given: Vec<String> = refusals.iter().map(|number| format!("{number}: {}", times(number))).collect();
@@ -48,7 +53,7 @@ impl Tally {
             missing |= refusals.iter().any(|number| times(number) == 0);
         }
         if missing {
-            println!("some refusal was never answered");
+            println!("some recipe never came, or some refusal was never answered");
             exit(1);
         }
         println!("no difference");
