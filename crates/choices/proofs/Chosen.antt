@@ -1,7 +1,7 @@
 -- The numbers that a row keeps of a column are the best and the competitor of its raw costs. Assumes nothing.
-use Prim.Native.Nat.{ℕ, zero, suc, _+_, _*_, _<_, _≤_}
-use mathlib.Core.Path.{_≡_, refl, sym, ap, ap₂, _∙_, subst}
-use mathlib.Core.Bool.{Bool, true, false, cond, _&&_, true≢false, false≢true}
+use Prim.Native.Nat.{ℕ, zero, suc, _<_}
+use mathlib.Core.Path.{_≡_, refl, sym, ap, _∙_, subst}
+use mathlib.Core.Bool.{Bool, true, false, cond, _&&_, true≢false}
 use mathlib.Core.List.{List, map}
 use native.Mathlib.Omega.{arith}
 use lib.Dec.{T}
@@ -10,6 +10,7 @@ use lib.Ieee.{Float, nan, inf, fin, binary32, lt, le, eq, sub, add, neg}
 use lib.Ieee.Scale.{finite}
 use Rattle.lists.specs.Lists.{listOf, walk}
 use Rattle.lists.proofs.Lists.{listOf-length, listOf-at}
+use Rattle.numbers.proofs.Plainly.{none-below, none-above}
 use Rattle.options.specs.declared.RawCost.{RawCost}
 use Rattle.options.specs.declared.RawCost.the-variants.{Blank, Corr}
 use Rattle.options.specs.Costs.{stored, rawOf, InRange}
@@ -24,7 +25,6 @@ use Rattle.choices.specs.Extremes.{AllInRange, Finds}
 use Rattle.choices.specs.Leading.{mostOf, indexOf, rivalOf}
 use Rattle.choices.proofs.Costs.{raw-back}
 use Rattle.choices.proofs.Largest.{best-largest}
-use Rattle.choices.proofs.Stepping.{not-below-blank}
 use Rattle.choices.proofs.Walking.{walk-keeps}
 
 -- ---- one raw cost more
@@ -45,7 +45,7 @@ larger (Found i u) m x j k h t = rw (← h .0, ← h .1) (go (lt u x))
 leads-next : (b : Best) (m x : Float) (j k : ℕ) → InRange (rawOf x) → Leads b m j → Leads (better b k (rawOf x)) (cond (lt m x) x m) (cond (lt m x) k j)
 unfolding eq le lt
 leads-next b m nan j k r h = absurd (r .0)
-leads-next b m (inf true) j k r h = rw (not-below-blank m) h
+leads-next b m (inf true) j k r h = rw (none-below m) h
 leads-next b m (inf false) j k r h = absurd (r .1)
 leads-next b m (fin s a e) j k r h = larger b m (fin s a e) j k h refl
 
@@ -97,13 +97,6 @@ from-number j x u e = go (eq x (inf true)) e
     go true h = absurd (let z : _≡_ {A = ℕ} 0 1 = cc in omega arith)
     go false h = cc
 
-above-all : (x : Float) → lt (inf false) x ≡ false
-unfolding lt
-above-all nan = refl
-above-all (inf true) = refl
-above-all (inf false) = refl
-above-all (fin s m e) = refl
-
 far-below : (x : Float) → T (finite x) → sub binary32 x (inf true) ≡ inf false
 unfolding sub add neg
 far-below nan f = absurd f
@@ -111,7 +104,7 @@ far-below (inf s) f = absurd f
 far-below (fin s m e) f = refl
 
 close-by : (b : Best) (m best ratio : Float) → T (finite best) → Rivals b m → tooClose best b ratio ≡ lt (sub binary32 best m) ratio
-close-by Nothing m best ratio f h = rw (h, far-below best f) (sym (above-all ratio))
+close-by Nothing m best ratio f h = rw (h, far-below best f) (sym (none-above ratio))
 close-by (Found k u) m best ratio f h = rw h
 
 module _ (v : ℕ → Float) (n : ℕ) (range : (k : ℕ) → k < n → InRange (rawOf (v k))) where

@@ -1,16 +1,17 @@
 -- The loops over a part of a row, for the best and for the competitor. Assumes nothing.
 use Prim.Native.Nat.{ℕ, _+_, _≤_, _<_}
-use mathlib.Core.Path.{_≡_, refl, sym, ap, ap₂, _∙_}
+use mathlib.Core.Path.{_≡_, refl, ap, ap₂, _∙_}
 use mathlib.Core.Bool.{Bool, true, false, cond, _&&_}
 use mathlib.Core.List.{List}
 use native.Mathlib.Omega.{arith}
 use lib.Ieee.{Float, nan, inf, lt}
 use lib.ListN.{length, getD, set, take}
 use lib.Seq.{take-all}
+use Rattle.numbers.proofs.Plainly.{none-below}
 use Rattle.choices.specs.Seen.{partAt}
 use Rattle.choices.specs.Leading.{halves, indexFloat, far, ledBy, rivalledBy}
 use Rattle.choices.proofs.Halves.{halves-length}
-use Rattle.choices.proofs.Stepping.{not-below-blank, upTo, steppedBy, step-none, read-first, read-second, step-first, step-second}
+use Rattle.choices.proofs.Stepping.{upTo, step-none, read-first, read-second, step-first, step-second}
 
 -- where the first i numbers of the part are read, the two rows are `is`
 pub record PartInv (w : ℕ) (part : List Float) (end : ℕ) (is now : List Float) (i : ℕ) : Type 0 where
@@ -31,10 +32,10 @@ abbrev pub leadIndex : ℕ → Float → Float → Float → Float
 leadIndex k m a v = cond (lt m v) (indexFloat k) a
 
 lead-kept : (k : ℕ) (m a : Float) → leadMost m a (inf true) ≡ m
-lead-kept k m a = rw (not-below-blank m)
+lead-kept k m a = rw (none-below m)
 
 index-kept : (k : ℕ) (m a : Float) → leadIndex k m a (inf true) ≡ a
-index-kept k m a = rw (not-below-blank m)
+index-kept k m a = rw (none-below m)
 
 -- what the loop for the competitor does
 abbrev pub rivalMost : ℕ → Float → Float → Float → Float
@@ -44,7 +45,7 @@ abbrev pub rivalIndex : Float → Float → Float → Float
 rivalIndex m a v = a
 
 rival-kept : (k : ℕ) (m a : Float) → rivalMost k m a (inf true) ≡ m
-rival-kept k m a = rw (not-below-blank m, and-false (far a k))
+rival-kept k m a = rw (none-below m, and-false (far a k))
 
 module _ (k w lo : ℕ) (part work₀ : List Float) (long : length work₀ ≡ w + w) (inside : lo + length part ≤ w) (end : ℕ) where
   pub lead-none : end ≡ length part → PartInv w part end (ledBy w k (upTo lo part 0) work₀) work₀ 0

@@ -1,29 +1,20 @@
 -- One index over a row: a loop that changes column after column of two rows, and skips the columns that are blank. Assumes nothing.
 use Prim.Native.Nat.{ℕ, zero, suc, _+_, _-_, _<_, _≤_}
-use mathlib.Core.Path.{_≡_, refl, sym, ap, ap₂, _∙_}
+use mathlib.Core.Path.{_≡_, refl, sym, ap, _∙_}
 use mathlib.Core.Bool.{Bool, true, false, cond}
 use mathlib.Core.List.{List, [], _∷_}
 use mathlib.Core.Logic.{⊎-elim}
 use native.Mathlib.Nat.{add-sub-cancel-left, not-suc-le-zero, le-of-suc-le-suc, eq-or-lt-of-le}
-use native.Mathlib.Numerals.{add-one}
 use native.Mathlib.Omega.{arith}
 use borrow.Author.Tests.{le-leb, leb-true}
 use lib.Dec.{leb}
-use lib.Ieee.{Float, nan, inf, fin, lt}
+use lib.Ieee.{Float, nan, inf, lt}
 use lib.ListN.{length, getD, set, take, length-take, List·getD-eq-default}
-use lib.Seq.{getD-take, take-length, length-take-le}
+use lib.Seq.{getD-take}
 use Rattle.lists.proofs.Tests.{lt-or-le}
 use Rattle.choices.specs.Seen.{partAt}
 use Rattle.choices.specs.Leading.{halves}
 use Rattle.choices.proofs.Halves.{halves-first, halves-second, halves-same, halves-own, set-first, set-second}
-
--- nothing lies below a blank
-pub not-below-blank : (x : Float) → lt x (inf true) ≡ false
-unfolding lt
-not-below-blank nan = refl
-not-below-blank (inf true) = refl
-not-below-blank (inf false) = refl
-not-below-blank (fin s m e) = refl
 
 -- ---- a part of a row
 

@@ -22,7 +22,7 @@ use Rattle.maps.specs.declared.Range.{Range}
 use Rattle.maps.specs.declared.Range.the-variants as range
 use Rattle.maps.specs.declared.Extent.the-variants as extent
 use Rattle.maps.specs.Cells.{cellOf}
-use Rattle.maps.specs.Map.{goodSize, inside, gotAt, validAt, valids, validCount, coverOf, lesserOf, greaterOf, widen, widens, rangeOf, extentOf, validRange}
+use Rattle.maps.specs.Map.{goodSize, inside, gotAt, validAt, valids, validCount, coverOf, widen, widens, rangeOf, extentOf, validRange}
 
 -- a map of a good size
 pub record Good (w h n : ℕ) : Type 0 where
@@ -161,16 +161,7 @@ module _ (w h : ℕ) (cells : List Float) (t : Bool) (e : t ≡ goodSize w h (le
   unfolding validRange
   range-is q = rw (yes q)
 
--- a range widened by a number, by the tests
-module _ (r : Range) (x : Float) (t : Bool) (e : t ≡ finite x) where
-  pub widen-none : t ≡ true → r ≡ range.None → range.Span x x ≡ widen r x
-  unfolding widen
-  widen-none q k = rw (k, sym e ∙ q)
-
-  pub widen-span : t ≡ true → (lo hi lo′ hi′ : Float) → r ≡ range.Span lo hi → lo′ ≡ lesserOf x lo → hi′ ≡ greaterOf x hi → range.Span lo′ hi′ ≡ widen r x
-  unfolding widen
-  widen-span q lo hi lo′ hi′ k a b = rw (k, sym e ∙ q, a, b)
-
+-- a number that is not valid widens no range
 pub widen-not : (r : Range) (x : Float) (t : Bool) → t ≡ finite x → t ≡ false → r ≡ widen r x
 unfolding widen
 widen-not range.None x t e q = rw (sym e ∙ q)

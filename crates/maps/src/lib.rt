@@ -3,8 +3,10 @@
 use numbers::plain::is_finite;
 use options::SIDE_MOST;
 ghost use mathlib.Core.Path.{_≡_};
+ghost use mathlib.Core.Bool.{cond};
+ghost use lib.Ieee.Scale.{finite};
 ghost use Rattle.maps.specs.Cells.{inBuffer, cellOf};
-ghost use Rattle.maps.specs.Map.{goodSize, gotAt, validAt, valids, validCount, coverOf, lesserOf, greaterOf, widen, rangeOf, validRange};
+ghost use Rattle.maps.specs.Map.{goodSize, gotAt, validAt, valids, validCount, coverOf, lesserOf, greaterOf, rangeOf, validRange};
 
 // One cell of a map: the mark of a cell that has no number, or a number.
 pub enum Cell {
@@ -172,35 +174,32 @@ fn greater(x: f32, greatest: f32) -> f32
     if greatest < x { x } else { greatest }
 }
 
-// The least and the greatest once a further number is seen.
-fn widened(range: Range, x: f32) -> Range
-    ensures { λ r. ⌜ r ≡ widen range x ⌝ }
+// A number where it is valid, and else z.
+fn valid_or(x: f32, z: f32) -> f32
+    ensures { λ r. ⌜ r ≡ cond (finite x) x z ⌝ }
 {
-    if is_finite(x) {
-        match range {
-            Range::None => Range::Span(x, x),
-            Range::Span(lo, hi) => {
-                let least = lesser(x, lo);
-                let greatest = greater(x, hi);
-                Range::Span(least, greatest)
-            }
-        }
-    } else {
-        range
-    }
+    if is_finite(x) { x } else { z }
 }
 
-// The least and the greatest of a slice's valid numbers.
+// The least and the greatest of a slice's valid numbers. Infinities stand for none, so that no step asks whether it is the first.
 pub fn range_in(cells: &[f32]) -> Range
     ensures { λ r. ⌜ r ≡ rangeOf (now (cells .entry)) ⌝ }
 {
-    let mut range = Range::None;
+    let top = f32::from_bits(0x7F80_0000);
+    let mut least = top;
+    let mut greatest = -top;
     let mut i: usize = 0;
     while i < cells.len() {
-        range = widened(range, cells[i]);
+        let x = cells[i];
+        least = lesser(valid_or(x, top), least);
+        greatest = greater(valid_or(x, -top), greatest);
         i += 1;
     }
-    range
+    if is_finite(least) {
+        Range::Span(least, greatest)
+    } else {
+        Range::None
+    }
 }
 
 // The least and the greatest valid number of a map.

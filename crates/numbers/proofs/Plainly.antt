@@ -1,4 +1,4 @@
--- A float's size by two comparisons with zero, and that x - x is zero exactly where x is a number. Assumes nothing.
+-- A float's size by two comparisons with zero, that x - x is zero exactly where x is a number, and that the infinities are the ends. Assumes nothing.
 use mathlib.Core.Path.{_≡_, refl, sym, ap, _∙_, subst}
 use Prim.Native.Nat.{ℕ, zero, suc, _+_, _*_, _<_}
 use native.Mathlib.Nat.{le-refl, sub-self, zero-mul, mul-pos, zero-lt-suc, not-suc-le-zero}
@@ -67,3 +67,21 @@ less-itself f nan = refl
 less-itself f (inf true) = refl
 less-itself f (inf false) = refl
 less-itself f (fin s m e) = ap (λ (y : Float). eq y (fin false 0 (pos 0))) (sum-none f s (m * up e * down e) (down e * down e) (mul-pos (down-pos e) (down-pos e)))
+
+-- ---- the ends
+
+-- nothing is below minus infinity
+pub none-below : (x : Float) → lt x (inf true) ≡ false
+unfolding lt
+none-below nan = refl
+none-below (inf true) = refl
+none-below (inf false) = refl
+none-below (fin s m e) = refl
+
+-- nothing is above infinity
+pub none-above : (x : Float) → lt (inf false) x ≡ false
+unfolding lt
+none-above nan = refl
+none-above (inf true) = refl
+none-above (inf false) = refl
+none-above (fin s m e) = refl

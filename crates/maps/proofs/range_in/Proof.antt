@@ -1,33 +1,44 @@
--- `maps::range_in` meets its contract: the range so far, widened by the cells from i on, is the whole range. Assumes nothing.
-use mathlib.Core.Path.{_≡_, refl, sym, ap, _∙_}
-use Prim.Native.Nat.{_+_, _≤_, _<_, _-_}
+-- `maps::range_in` meets its contract: the ends so far, widened by the cells from i on, are the whole range's. Assumes nothing.
+use Prim.Native.Nat.{_-_}
 use native.Mathlib.Omega.{arith}
 use borrow.Author.Needs.{needs}
-use lib.ListN.{length, drop}
-use Rattle.maps.specs.declared.Range.{Range}
-use Rattle.maps.specs.declared.Range.the-variants.{None}
-use Rattle.maps.specs.Map.{widens}
-use Rattle.maps.proofs.Facts.{widens-step, widens-end}
+use lib.ListN.{length}
+use lib.Ieee.{ofBits, neg, nanBits}
+use Rattle.maps.proofs.Ends.{Seen, seen-none, seen-next, seen-span, seen-nothing}
 use Rattle.maps.proofs.range_in.Statement.{statement}
 use Rattle.maps.proofs.range_in.Tie as tie
 
 abbrev Inv-loop : tie.InvT-loop
-Inv-loop cells range₀ i₀ range i = (i ≤ length cells) × (widens range (drop i cells) ≡ widens None cells)
+Inv-loop cells top least₀ greatest₀ i₀ least greatest i = Seen cells least greatest i
 
 abbrev μ-loop : tie.MeasureT-loop
-μ-loop cells range₀ i₀ range i = length cells - i
+μ-loop cells top least₀ greatest₀ i₀ least greatest i = length cells - i
+
+float-from-bits-top : tie.Need-float-from-bits-top Inv-loop μ-loop
+unfolding nanBits
+float-from-bits-top c = tt
 
 loop-holds : tie.Need-loop-holds Inv-loop μ-loop
-loop-holds c = (omega arith, refl)
+unfolding ofBits neg
+loop-holds c = seen-none _
 
-mul-widened : tie.Need-mul-widened Inv-loop μ-loop
-mul-widened c = search needs
+mul-x : tie.Need-mul-x Inv-loop μ-loop
+mul-x c = search needs
 
-shared-slice-read-widened : tie.Need-shared-slice-read-widened Inv-loop μ-loop
-shared-slice-read-widened c = search needs
+shared-slice-read-x : tie.Need-shared-slice-read-x Inv-loop μ-loop
+shared-slice-read-x c = search needs
 
-widened-requires : tie.Need-widened-requires Inv-loop μ-loop
-widened-requires c κs = tt
+valid-or-requires : tie.Need-valid-or-requires Inv-loop μ-loop
+valid-or-requires c κs = search needs
+
+lesser-requires : tie.Need-lesser-requires Inv-loop μ-loop
+lesser-requires c κs = search needs
+
+valid-or-requires-2 : tie.Need-valid-or-requires-2 Inv-loop μ-loop
+valid-or-requires-2 c κs = search needs
+
+greater-requires : tie.Need-greater-requires Inv-loop μ-loop
+greater-requires c κs = search needs
 
 add-i : tie.Need-add-i Inv-loop μ-loop
 add-i c = search needs
@@ -36,14 +47,19 @@ loop-less : tie.Need-loop-less Inv-loop μ-loop
 loop-less c = search needs
 
 loop-again : tie.Need-loop-again Inv-loop μ-loop
+unfolding ofBits neg
 loop-again c =
-    let s = c .before .before .before .before .before .args .cells .now in
-    let i = c .before .before .before .loop .i in
-    let b : i < length s = omega arith in
-    (omega arith, ap (λ (r : Range). widens r (drop (i + 1) s)) (c .widened .ensures) ∙ (sym (widens-step s i b _) ∙ c .before .before .before .loop .inv .1))
+    let loop = c .before .before .before .before .before .before .loop in
+    seen-next _ (loop .least) (loop .greatest) (loop .i) (loop .inv) _ _ _ _ (c .before .before .before .valid-or .ensures) (c .before .valid-or2 .ensures) (c .before .before .lesser .ensures) (c .greater .ensures) (omega arith)
+
+is-finite-requires : tie.Need-is-finite-requires Inv-loop μ-loop
+is-finite-requires c κs = search needs
 
 returns : tie.Need-returns Inv-loop μ-loop
-returns c = sym (widens-end (c .before .before .before .args .cells .now) (c .before .loop .i) _ (omega arith)) ∙ c .before .loop .inv .1
+returns c = seen-span _ _ _ _ (c .before .before .before .loop .inv) (omega arith) _ (c .before .is-finite .ensures) (c .if1 .taken)
+
+returns-2 : tie.Need-returns-2 Inv-loop μ-loop
+returns-2 c = seen-nothing _ _ _ _ (c .before .before .before .loop .inv) (omega arith) _ (c .before .is-finite .ensures) (c .if1 .left)
 
 pub range-in-spec : {M : Type 1} → statement M
 range-in-spec =
@@ -51,11 +67,17 @@ range-in-spec =
     (tie.spec
     Inv-loop
     μ-loop
+    float-from-bits-top
     loop-holds
-    mul-widened
-    shared-slice-read-widened
-    widened-requires
+    mul-x
+    shared-slice-read-x
+    valid-or-requires
+    lesser-requires
+    valid-or-requires-2
+    greater-requires
     add-i
     loop-less
     loop-again
-    returns)
+    is-finite-requires
+    returns
+    returns-2)
