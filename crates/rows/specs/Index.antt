@@ -2,7 +2,7 @@
 use Prim.Native.Nat.{ℕ, zero, suc, _+_, _*_}
 use mathlib.Core.Path.{_≡_}
 use mathlib.Core.Bool.{cond}
-use mathlib.Core.List.{List, []}
+use mathlib.Core.List.{List}
 use lib.ListN.{length, set}
 use lib.Dec.{eqb}
 use lib.Ieee.{Float}
@@ -28,10 +28,6 @@ rangeIn r = cond (eqb (r .count) 0) range.None (range.Span (r .least) (r .greate
 -- the record of a row's cells: how many are valid, and the least and the greatest of those
 abbrev pub recordOf : List Float → RowRecord
 recordOf row = recordIn (valids row) (rangeOf row)
-
--- the record of a row that has no cell
-abbrev pub noRecord : RowRecord
-noRecord = recordOf []
 
 -- THE INDEX of a map: the record of each row, from the first row on
 unfoldable pub freshIndex : ℕ → ℕ → List Float → List RowRecord
@@ -70,10 +66,6 @@ cellsAfter w h cells m e = after (editRefusal w h (length cells) m e) (edited w 
 -- the record of the edit's row, worked out afresh from the map with the edit's cell
 abbrev pub freshRow : ℕ → List Float → Edit → RowRecord
 freshRow w cells e = recordOf (rowOf w (edited w cells e) (e .y))
-
--- that record, and none of a refused edit
-unfoldable pub rowAfter : ℕ → ℕ → List Float → ℕ → Edit → RowRecord
-rowAfter w h cells m e = after (editRefusal w h (length cells) m e) (freshRow w cells e) noRecord
 
 -- the index afterwards: that record in its place, and every other as it was
 unfoldable pub indexAfter : ℕ → ℕ → List Float → List RowRecord → Edit → List RowRecord

@@ -7,7 +7,8 @@ ghost use mathlib.Core.Path.{_≡_};
 ghost use Prim.Native.Nat.{_+_, _*_, _<_, _≤_};
 ghost use lib.ListN.{length};
 ghost use Rattle.lists.specs.Rows.{rowOf};
-ghost use Rattle.rows.specs.Index.{recordIn, rangeIn, recordOf, noRecord, after, freshRefusal, FreshDone, editRefusal, edited, rowAfter, cellsAfter, EditDone};
+ghost use Rattle.rows.specs.Index.{recordIn, rangeIn, recordOf, after, freshRefusal, FreshDone, editRefusal, edited, cellsAfter, EditDone};
+ghost use Rattle.rows.specs.Answers.{noRecord, rowAfter};
 
 // What the index holds of one row: how many of its cells are valid, and the least and the greatest of those. Where none is valid the
 // two are the mark, as a cell of the map is.

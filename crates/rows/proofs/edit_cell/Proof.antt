@@ -49,7 +49,8 @@ use denote.Triple.Table.{entered, cited}
 use denote.Triple.Walked.{says, Stay, Stays, stay-slice, stay-dropped, gave-slice, walkOf, Goes, goes-slice, goes-dropped, goes-gave-slice, Walks, ends-at, walked, walk-meets}
 use denote.Triple.Clauses.{ensured, lasts}
 use denote.Exit.{yes}
-use Rattle.rows.specs.Index.{after, editRefusal, rowAfter, cellsAfter, indexAfter, EditDone}
+use Rattle.rows.specs.Index.{after, editRefusal, cellsAfter, indexAfter, EditDone}
+use Rattle.rows.specs.Answers.{rowAfter}
 use Rattle.rows.specs.declared.RowRecord.{RowRecord}
 use Rattle.rows.specs.declared.Edit.{Edit}
 use Rattle.rows.specs.declared.Left.{Left}

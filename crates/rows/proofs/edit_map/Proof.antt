@@ -2,7 +2,8 @@
 use mathlib.Core.Path.{sym, ap, _∙_}
 use borrow.Author.Needs.{needs}
 use Rattle.lists.specs.Rows.{rowOf}
-use Rattle.rows.specs.Index.{recordOf, rowAfter, cellsAfter}
+use Rattle.rows.specs.Index.{recordOf, cellsAfter}
+use Rattle.rows.specs.Answers.{rowAfter}
 use Rattle.rows.proofs.Accepted.{edit-fits, cell-there, row-there}
 use Rattle.rows.proofs.Steps.{after-none, after-refused, still-there}
 use Rattle.rows.proofs.edit_map.Statement.{statement}
