@@ -17,7 +17,7 @@ use Rattle.choices.specs.declared.subpixel.Search.{Search}
 use Rattle.choices.specs.Leading.{halves, indexFloat}
 use Rattle.choices.specs.RowChoice.{ledIndex, rivalIn, rivalRow, columnCell, chosenRow}
 use Rattle.choices.proofs.Halves.{halves-length, halves-first, halves-second, halves-same, set-first}
-use Rattle.choices.proofs.Indices.{ltb-same}
+use Rattle.numbers.proofs.FloatOrder.{ltb-same}
 
 -- the first of the two rows where x columns are chosen
 abbrev mixed : Row → ℕ → Search → Gates → List Float → ℕ → ℕ → Float

@@ -12,7 +12,7 @@ use lib.Ieee.Back.{round-whole, unsigned-back}
 use lib.Ieee.Fits.{down-pos}
 use Rattle.choices.specs.Block.{away}
 use Rattle.choices.specs.Leading.{indexFloat, far}
-use Rattle.choices.proofs.Indices.{ltb-same}
+use Rattle.numbers.proofs.FloatOrder.{ltb-same}
 
 whole-order : (x y : Float) (a b : ℕ) → HasValue x false a 1 → HasValue y false b 1 → lt x y ≡ ltb a b
 unfolding lt

@@ -10,7 +10,7 @@ use lib.Dec.{T}
 use lib.ListN.{length, getD, List·getD-eq-default}
 use lib.Ieee.{Float, nan, inf, fin, le, lt}
 use lib.Ieee.Scale.{finite}
-use Rattle.lists.proofs.Tests.{lt-or-le}
+use Rattle.lists.proofs.Tests.{lt-or-le, last-or}
 use Rattle.options.specs.declared.RawCost.{RawCost}
 use Rattle.options.specs.declared.RawCost.the-variants.{Blank, Corr}
 use Rattle.options.specs.Costs.{Within, InRange}
@@ -18,9 +18,8 @@ use Rattle.choices.specs.declared.block.Best.{Best}
 use Rattle.choices.specs.declared.block.Best.the-variants.{Nothing, Found}
 use Rattle.choices.specs.Block.{better, bestOf, away, rival, competitor}
 use Rattle.choices.specs.Extremes.{AllInRange, Finds}
-use Rattle.choices.proofs.Indices.{last-or}
 use Rattle.choices.proofs.Walking.{walk-keeps}
-use Rattle.choices.proofs.FloatOrder.{lt-not, lt-self, lt-under}
+use Rattle.numbers.proofs.FloatOrder.{lt-not, lt-self, lt-under}
 
 -- ---- the index alone, which needs no range
 

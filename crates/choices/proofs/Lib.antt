@@ -15,6 +15,5 @@ pub mod Chosen
 pub mod Finishing
 pub mod MapRows
 pub mod Walking
-pub mod FloatOrder
 pub mod Largest
 pub mod Smallest

@@ -9,12 +9,12 @@ use lib.Dec.{T}
 use lib.ListN.{length, getD}
 use lib.Ieee.{Float, nan, inf, fin, lt}
 use lib.Ieee.Scale.{finite}
+use Rattle.lists.proofs.Tests.{last-or}
 use Rattle.choices.specs.declared.semi_global.Least.{Least}
 use Rattle.choices.specs.SemiGlobal.{lesser, leastOf}
 use Rattle.choices.specs.Extremes.{AllFinite, Smallest}
-use Rattle.choices.proofs.Indices.{last-or}
 use Rattle.choices.proofs.Walking.{walk-keeps}
-use Rattle.choices.proofs.FloatOrder.{lt-not, lt-self, lt-over}
+use Rattle.numbers.proofs.FloatOrder.{lt-not, lt-self, lt-over}
 
 -- ---- the index alone, which needs no finite sums: below every bound of the count, if that is above 0
 pub least-in : (n : ℕ) (sums : List Float) → 0 < n → length sums ≤ n → leastOf sums .k < n

@@ -11,6 +11,10 @@ use Rattle.lists.specs.Lists.{allBelow}
 pub lt-or-le : (a b : ℕ) → (a < b) ⊎ (b ≤ a)
 lt-or-le a b = elim (decLt a b) [ yes l ↦ inl l | no n ↦ inr (omega arith) ]
 
+-- an index below suc n is n, or is below n
+pub last-or : {X : Type 0} (j n : ℕ) → j < suc n → (j ≡ n → X) → (j < n → X) → X
+last-or j n l f g = ⊎-elim f g (eq-or-lt-of-le (le-of-suc-le-suc l))
+
 pub and-both : (s t : Bool) → s && t ≡ true → (s ≡ true) × (t ≡ true)
 and-both true t e = (refl, e)
 and-both false t e = absurd (true≢false (sym e))

@@ -1,6 +1,6 @@
 -- The counts of an index: together they count the valid cells of the map, and an edit moves one of them by what it changes; the range of a
 -- record is its row's. Assumes nothing.
-use mathlib.Core.Path.{_≡_, refl, sym, ap, ap₂, _∙_}
+use mathlib.Core.Path.{_≡_, refl, sym, ap, ap₂, _∙_, subst}
 use Prim.Native.Nat.{ℕ, zero, suc, _+_, _*_, _<_}
 use native.Mathlib.Nat.{not-suc-le-zero, le-of-suc-le-suc, zero-mul, mul-zero, mul-suc, add-assoc, add-zero, zero-add}
 use native.Mathlib.Omega.{arith}
@@ -19,7 +19,9 @@ use Rattle.maps.specs.declared.Range.{Range}
 use Rattle.maps.specs.declared.Range.the-variants as range
 use Rattle.maps.specs.Cells.{inBuffer}
 use Rattle.maps.specs.Map.{goodSize, valids, validCount, lesserOf, greaterOf, widen, widens, rangeOf}
+use Rattle.maps.specs.Extremes.{Finds}
 use Rattle.maps.proofs.Facts.{good, count-is}
+use Rattle.maps.proofs.Extremes.{range-found}
 use Rattle.rows.specs.declared.Edit.{Edit}
 use Rattle.rows.specs.Index.{recordIn, rangeIn, recordOf, freshIndex, editRefusal, edited}
 use Rattle.rows.specs.Runs.{Indexed, fresh, run, total, counted}
@@ -112,3 +114,7 @@ range-kept row = told (valids row) (rangeOf row) (rw zero-add at (widens-agrees 
     told : (n : ℕ) (r : Range) → Agrees n r → rangeIn (recordIn n r) ≡ r
     told n range.None none = rw none
     told n (range.Span lo hi) some = rw (ne-eqb n 0 (λ z. omega arith))
+
+-- THEOREM: so what a row's record holds is the least and the greatest of the row's valid cells, each the leftmost of its equals
+pub record-finds : (row : List Float) → Finds row (rangeIn (recordOf row))
+record-finds row = subst (Finds row) (sym (range-kept row)) (range-found row)

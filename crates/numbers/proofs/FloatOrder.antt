@@ -1,17 +1,24 @@
 -- The order of finite floats. Assumes nothing.
-use Prim.Native.Nat.{ℕ, _+_, _*_, _<_}
+use Prim.Native.Nat.{ℕ, _+_, _*_, _<_, _≤_}
 use mathlib.Core.Path.{_≡_, refl, sym, _∙_}
 use mathlib.Core.Bool.{Bool, true, false, true≢false, false≢true}
 use native.Mathlib.Nat.{mul-right-comm, add-mul, mul-pos, mul-le-mul-right, mul-lt-mul-of-pos-right}
 use native.Mathlib.Omega.{arith}
-use lib.Dec.{T}
+use lib.Dec.{T, ltb}
 use borrow.Author.Tests.{lt-ltb, le-ltb, ltb-true, ltb-false}
 use lib.Ieee.{Float, nan, inf, fin, lt, below, up, down}
 use lib.Ieee.Fits.{down-pos}
 use lib.Ieee.Scale.{finite}
-use Rattle.choices.proofs.Indices.{ltb-same}
 
 -- ---- whole numbers with a sign
+
+-- two tests with the same answer
+pub ltb-same : (a b c d : ℕ) → (c < d → a < b) → (d ≤ c → b ≤ a) → ltb a b ≡ ltb c d
+ltb-same a b c d p q = go (ltb c d) refl
+  where
+    go : (t : Bool) → ltb c d ≡ t → ltb a b ≡ t
+    go true e = lt-ltb a b (p (ltb-true c d e))
+    go false e = le-ltb a b (q (ltb-false c d e))
 
 below-not : (s : Bool) (a : ℕ) (t : Bool) (b : ℕ) → below s a t b ≡ true → below t b s a ≡ false
 below-not false a false b h = le-ltb b a (omega (arith, ltb-true a b h))
