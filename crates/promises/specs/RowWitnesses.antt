@@ -26,9 +26,11 @@ five = fin false 5 (pos 0)
 abbrev pub map : List Float
 map = two ∷ nan ∷ five ∷ inf false ∷ minusOne ∷ minusOne ∷ []
 
+-- a row's record
 abbrev pub rowIs : ℕ → Float → Float → RowRecord
 rowIs n least greatest = record { count = n; least = least; greatest = greatest }
 
+-- the edit of a pixel
 abbrev pub at : ℕ → ℕ → Cell → Edit
 at x y value = record { x = x; y = y; value = value }
 

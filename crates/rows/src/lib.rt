@@ -1,6 +1,6 @@
 // The row index beside a map: for each row how many of its cells are valid, and the least and the greatest of those, kept so while
 // single cells are edited. The caller lends the records. `fresh_index` and `edit_cell` are the two functions over a slice of structs:
-// each leaves every decision to covered functions, and is proved by hand.
+// each leaves what is to be written, and what is answered, to covered functions, and is proved by hand.
 use maps::Cell;
 use maps::Range;
 ghost use mathlib.Core.Path.{_≡_};
