@@ -1,5 +1,5 @@
 -- The quotient of two windows that lie in their pictures is of moderate size, so that it is narrowed without a branch. Assumes nothing.
-use Prim.Native.Nat.{ℕ, zero, suc, _+_, _*_, _^_, _≤_, _<_}
+use Prim.Native.Nat.{ℕ, zero, suc, _*_, _^_, _≤_, _<_}
 use mathlib.Core.Path.{_≡_, refl, sym, ap, _∙_, subst}
 use mathlib.Core.List.{List}
 use mathlib.Core.Logic.{⊎-elim}
@@ -7,15 +7,14 @@ use native.Mathlib.Nat.{zero-mul, mul-zero, eq-zero-or-pos, mul-pos}
 use native.Mathlib.Omega.{arith}
 use borrow.Author.Tests.{ne-eqb, eq-eqb}
 use lib.IntN.{ℤ, pos, negsuc, natAbs}
-use lib.Ieee.{Float, binary64, ofBits, ofInt, mul, div}
+use lib.Ieee.{binary64, ofBits, ofInt, mul, div}
 use Rattle.numbers.specs.Narrow.{Moderate}
 use Rattle.numbers.specs.Root.{rootOf}
 use Rattle.numbers.proofs.CostBound.{cost-moderate, none-moderate}
-use Rattle.windows.specs.Window.{cornerSum, cells, cornerAt}
 use Rattle.windows.specs.Moments.{covarianceOf}
 use Rattle.costs.specs.Raw.{pixels, windowVar, windowCov}
 use Rattle.costs.specs.Quotient.{one, divisorOf, Divisible}
-use Rattle.costs.specs.Rooms.{Pair}
+use Rattle.costs.specs.Rooms.{Summed}
 use Rattle.costs.proofs.RootBits.{bits-back}
 use Rattle.costs.proofs.Readings.{var-most, root-here, root-there}
 use Rattle.costs.proofs.PairCosts.{pos-of-ne, rootA, rootB, sumA, sumB, flat-here, flat-there, spread-here, spread-there, no-nan-here, no-nan-there, cov-is}
@@ -37,7 +36,7 @@ none-over-one : Moderate (div binary64 (ofInt binary64 (pos 0)) one)
 unfolding ofBits
 none-over-one = none-moderate
 
-module _ {room : List ℕ} {w h r x x′ y : ℕ} (p : Pair room w h r x x′ y) where
+module _ {room : List ℕ} {w h r x x′ y both : ℕ} (p : Summed room w h r x x′ y both) where
   abbrev va : ℕ
   va = windowVar w (p .a) x y r
 
@@ -80,10 +79,9 @@ module _ {room : List ℕ} {w h r x x′ y : ℕ} (p : Pair room w h r x x′ y)
       (eq-zero-or-pos (rootA p))
 
   -- what the quotient asks for
-  pub divisible : (both : ℕ) → both ≡ cornerSum room (w + 1) (4 * cells w h + cornerAt w x y r) (2 * r + 1)
-      → Divisible (ofInt binary64 (covarianceOf (pixels r) (sumA p) (sumB p) both)) (rootA p) (rootB p)
-  divisible both e = record {
+  pub divisible : Divisible (ofInt binary64 (covarianceOf (pixels r) (sumA p) (sumB p) both)) (rootA p) (rootB p)
+  divisible = record {
     a-number = no-nan-here p;
     b-number = no-nan-there p;
-    moderate = rw (cov-is p both e (p .held)) moderate;
+    moderate = rw (cov-is p (p .s) (p .held) (p .sum)) moderate;
   }

@@ -1,8 +1,8 @@
 -- What a room that holds the five parts of two pictures has in its cells. Assumes nothing.
-use Prim.Native.Nat.{ℕ, zero, suc, _+_, _*_, _-_, _/_, _%_, _^_, _≤_, _<_}
-use mathlib.Core.Path.{_≡_, refl, sym, ap, ap₂, _∙_}
+use Prim.Native.Nat.{ℕ, _+_, _*_, _-_, _/_, _^_, _≤_, _<_}
+use mathlib.Core.Path.{_≡_, refl, _∙_}
 use mathlib.Core.List.{List, [], _++_, append-assoc}
-use native.Mathlib.Nat.{zero-add, mul-le-mul, sub-add-cancel, le-of-lt, lt-of-le-of-lt}
+use native.Mathlib.Nat.{zero-add, mul-le-mul, sub-add-cancel}
 use native.Mathlib.Omega.{arith}
 use borrow.Author.Tests.{lt-ltb}
 use lib.IntN.{ℤ, pos, _+ℤ_}
@@ -10,19 +10,15 @@ use lib.ListN.{length, getD, length-append, List·getD-append}
 use lib.Seq.{getD-append-add}
 use Rattle.options.specs.Limits.{sideMost, blockMost}
 use Rattle.lists.specs.Rows.{levelAt}
-use Rattle.lists.specs.Sums.{sumTo}
 use Rattle.windows.specs.Table.{tableOf, squareAt, crossAt}
 use Rattle.windows.specs.Window.{windowSum, Inside, cells, TableFrom, cornerAt}
-use Rattle.windows.specs.Moments.{varianceOf}
 use Rattle.windows.proofs.Tables.{length-table}
 use Rattle.windows.proofs.Windows.{cell-in}
-use Rattle.windows.proofs.Bounds.{Below53}
-use Rattle.windows.proofs.Flat.{pixel, count, window-flat, window-cross, windows-fit, count-most}
-use Rattle.lists.specs.Lists.{listOf}
+use Rattle.windows.proofs.Flat.{window-flat, window-cross, windows-fit, count-most}
 use Rattle.costs.specs.Raw.{pixels, windowVar}
 use Rattle.costs.specs.Roots.{rootBits, windowAt, windowCell, windowTable, sumIn, rootIn, pictureTables}
 use Rattle.costs.specs.Quotient.{Counted}
-use Rattle.costs.specs.Rooms.{Frame, Picture, fiveParts, RoomOf}
+use Rattle.costs.specs.Rooms.{Picture, fiveParts, TablesOf, RoomOf}
 use Rattle.lists.proofs.Lists.{listOf-length, listOf-at}
 use Rattle.lists.proofs.Rows.{in-column, in-row}
 
@@ -77,8 +73,8 @@ pub var-most : (w h : ℕ) (a : List ℕ) (x y r : ℕ) → r ≤ blockMost / 2 
 unfolding windowVar
 var-most w h a x y r few pa = omega (arith, squares-fit w h a x y r few pa)
 
--- the parts of a room
-module _ {room : List ℕ} {w h r : ℕ} {s : ℤ} {a b : List ℕ} (o : RoomOf room w h r s a b) where
+-- the tables in a room
+module _ {room : List ℕ} {w h r : ℕ} {a b : List ℕ} (t : TablesOf room w h r a b) where
   SA : List ℕ
   SA = windowTable w h r (sumIn w r a)
 
@@ -91,26 +87,24 @@ module _ {room : List ℕ} {w h r : ℕ} {s : ℤ} {a b : List ℕ} (o : RoomOf 
   RB : List ℕ
   RB = windowTable w h r (rootIn w r b)
 
-  AB : List ℕ
-  AB = tableOf w h (crossAt w a b s)
+  whole : room ≡ SA ++ RA ++ SB ++ RB ++ t .rest
+  unfolding SA SB RA RB pictureTables
+  whole = t .is ∙ simp append-assoc
 
-  whole : room ≡ SA ++ RA ++ SB ++ RB ++ AB ++ o .rest
-  unfolding SA SB AB RA RB fiveParts pictureTables
-  whole = o .is ∙ simp append-assoc
+  lengths : (length SA ≡ cells w h) × (length RA ≡ cells w h) × (length SB ≡ cells w h) × (length RB ≡ cells w h)
+  unfolding SA SB RA RB
+  lengths = (length-windows w h r _, length-windows w h r _, length-windows w h r _, length-windows w h r _)
 
-  lengths : (length SA ≡ cells w h) × (length RA ≡ cells w h) × (length SB ≡ cells w h) × (length RB ≡ cells w h) × (length AB ≡ cells w h)
-  unfolding SA SB AB RA RB
-  lengths = (length-windows w h r _, length-windows w h r _, length-windows w h r _, length-windows w h r _, length-table w h _)
+  pub tables-long : 4 * cells w h + length (t .rest) ≡ length room
+  tables-long = rw whole (simp length-append (omega (arith, lengths)))
 
-  pub long : 5 * cells w h ≤ length room
-  long = rw whole (simp length-append (omega (arith, lengths)))
-
-  pub products : (i : ℕ) → TableFrom room (4 * cells w h) i w h (crossAt w a b s)
-  unfolding AB
-  products i = record {
-    long = omega (arith, long);
-    same = λ j _ l. part-cell (SA ++ RA ++ SB ++ RB) AB (o .rest) room (4 * cells w h) j (simp length-append (omega (arith, lengths))) whole (rw length-table l);
-  }
+  -- a cell behind the tables
+  pub behind : (j : ℕ) → getD room (4 * cells w h + j) 0 ≡ getD (t .rest) j 0
+  behind j =
+      let tables : List ℕ = SA ++ RA ++ SB ++ RB in
+      let four : length tables ≡ 4 * cells w h = simp length-append (omega (arith, lengths)) in
+      let is : room ≡ tables ++ t .rest = whole ∙ simp append-assoc in
+      rw (is, ← four) (getD-append-add tables (t .rest) j 0)
 
   -- the cell of a window in a table of windows
   read : (off : ℕ) (f : ℕ → ℕ → ℕ) (done rest : List ℕ) → length done ≡ off → room ≡ done ++ windowTable w h r f ++ rest
@@ -124,16 +118,40 @@ module _ {room : List ℕ} {w h r : ℕ} {s : ℤ} {a b : List ℕ} (o : RoomOf 
 
   pub sum-here : (x y : ℕ) → Inside w h x y r → getD room (cornerAt w x y r) 0 ≡ windowSum (levelAt w a) x y r
   unfolding SA
-  sum-here x y i = rw zero-add at (read 0 (sumIn w r a) [] (RA ++ SB ++ RB ++ AB ++ o .rest) refl (whole ∙ simp append-assoc) x y i)
+  sum-here x y i = rw zero-add at (read 0 (sumIn w r a) [] (RA ++ SB ++ RB ++ t .rest) refl (whole ∙ simp append-assoc) x y i)
 
   pub root-here : (x y : ℕ) → Inside w h x y r → getD room (cells w h + cornerAt w x y r) 0 ≡ rootBits (windowVar w a x y r)
   unfolding RA
-  root-here = read (cells w h) (rootIn w r a) SA (SB ++ RB ++ AB ++ o .rest) (lengths .0) (whole ∙ simp append-assoc)
+  root-here = read (cells w h) (rootIn w r a) SA (SB ++ RB ++ t .rest) (lengths .0) (whole ∙ simp append-assoc)
 
   pub sum-there : (x y : ℕ) → Inside w h x y r → getD room (2 * cells w h + cornerAt w x y r) 0 ≡ windowSum (levelAt w b) x y r
   unfolding SB
-  sum-there = read (2 * cells w h) (sumIn w r b) (SA ++ RA) (RB ++ AB ++ o .rest) (simp length-append (omega (arith, lengths))) (whole ∙ simp append-assoc)
+  sum-there = read (2 * cells w h) (sumIn w r b) (SA ++ RA) (RB ++ t .rest) (simp length-append (omega (arith, lengths))) (whole ∙ simp append-assoc)
 
   pub root-there : (x y : ℕ) → Inside w h x y r → getD room (3 * cells w h + cornerAt w x y r) 0 ≡ rootBits (windowVar w b x y r)
   unfolding RB
-  root-there = read (3 * cells w h) (rootIn w r b) (SA ++ RA ++ SB) (AB ++ o .rest) (simp length-append (omega (arith, lengths))) (whole ∙ simp append-assoc)
+  root-there = read (3 * cells w h) (rootIn w r b) (SA ++ RA ++ SB) (t .rest) (simp length-append (omega (arith, lengths))) (whole ∙ simp append-assoc)
+
+-- the parts of a room: the tables of the two pictures, and the products' table behind them
+module _ {room : List ℕ} {w h r : ℕ} {s : ℤ} {a b : List ℕ} (o : RoomOf room w h r s a b) where
+  AB : List ℕ
+  AB = tableOf w h (crossAt w a b s)
+
+  pub tables-of : TablesOf room w h r a b
+  unfolding AB fiveParts
+  tables-of = record { rest = AB ++ o .rest; frame = o .frame; first = o .first; second = o .second; is = o .is ∙ simp append-assoc }
+
+  long-AB : length AB ≡ cells w h
+  unfolding AB
+  long-AB = length-table w h _
+
+  pub long : 5 * cells w h ≤ length room
+  unfolding tables-of
+  long = omega (arith, tables-long tables-of, length-append AB (o .rest), long-AB)
+
+  pub products : (i : ℕ) → TableFrom room (4 * cells w h) i w h (crossAt w a b s)
+  unfolding AB tables-of
+  products i = record {
+    long = omega (arith, long);
+    same = λ j _ l. behind tables-of j ∙ List·getD-append AB (o .rest) 0 j (rw length-table l);
+  }

@@ -8,7 +8,7 @@ use Rattle.options.specs.declared.BlockMatchOptions.{BlockMatchOptions}
 use Rattle.options.specs.Limits.{sideMost, blockMost, countMost, firstMost}
 use Rattle.lists.specs.Rows.{levelAt}
 use Rattle.windows.specs.Table.{squareAt, crossAt, tableOf}
-use Rattle.windows.specs.Window.{Inside, cells, TableFrom}
+use Rattle.windows.specs.Window.{Inside, cells, TableFrom, windowSum}
 use Rattle.costs.specs.Roots.{pictureTables}
 
 -- the sizes of two pictures and of a window that fits in them
@@ -36,6 +36,14 @@ pub record Turned (pair : List ℕ) (w h r i : ℕ) : Type 0 where
   pub frame : Frame w h r
   pub among : i < cells w h
   pub held : Turning pair w h i pic
+
+-- a room begins with the tables of the pictures a and b
+pub record TablesOf (room : List ℕ) (w h r : ℕ) (a b : List ℕ) : Type 0 where
+  pub rest : List ℕ
+  pub frame : Frame w h r
+  pub first : Picture w h a
+  pub second : Picture w h b
+  pub is : room ≡ pictureTables w h r a ++ pictureTables w h r b ++ rest
 
 -- the tables of two pictures one after the other, and the table of the products of a's levels by b's, s columns further right
 unfoldable pub fiveParts : ℕ → ℕ → ℕ → List ℕ → List ℕ → ℤ → List ℕ
@@ -65,7 +73,18 @@ pub record Pair (room : List ℕ) (w h r x x′ y : ℕ) : Type 0 where
   pub second : Inside w h x′ y r
   pub apart : pos x +ℤ s ≡ pos x′
 
--- the same of n columns from x and from x′ on
+-- the same of a room with the tables of some two pictures, where the sum of the windows' products is known
+pub record Summed (room : List ℕ) (w h r x x′ y products : ℕ) : Type 0 where
+  pub s : ℤ
+  pub a : List ℕ
+  pub b : List ℕ
+  pub held : TablesOf room w h r a b
+  pub first : Inside w h x y r
+  pub second : Inside w h x′ y r
+  pub apart : pos x +ℤ s ≡ pos x′
+  pub sum : products ≡ windowSum (crossAt w a b s) x y r
+
+-- a pair of windows in each of n columns, from x and from x′ on
 pub record Lined (room : List ℕ) (w h r x x′ y n : ℕ) : Type 0 where
   pub s : ℤ
   pub a : List ℕ

@@ -7,8 +7,8 @@ use refusals::Call;
 use refusals::Output;
 
 mod plane;
-mod raw;
-mod tables;
+pub mod raw;
+pub mod tables;
 pub mod volume;
 
 // The raw costs of all indices and pixels: index k of pixel (x, y) goes to cell k·w·h + y·w + x of `out`, blank as negative

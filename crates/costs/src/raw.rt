@@ -9,8 +9,10 @@ ghost use lib.Ieee.{binary64, inf, ofInt};
 ghost use Rattle.options.specs.Costs.{stored};
 ghost use Rattle.costs.specs.Raw.{pairCost};
 ghost use Rattle.windows.specs.Moments.{covarianceOf};
+ghost use Rattle.windows.specs.Table.{crossAt};
+ghost use Rattle.windows.specs.Window.{windowSum};
 ghost use Rattle.costs.specs.Quotient.{Counted, isFlat, one, quotientCell, Divisible};
-ghost use Rattle.costs.specs.Rooms.{RoomOf, Pair};
+ghost use Rattle.costs.specs.Rooms.{TablesOf, Summed, RoomOf, Pair};
 use numbers::narrow::narrow_plain;
 use windows::window_sum;
 
@@ -62,6 +64,35 @@ pub fn quotient(cov: f64, a: u64, b: u64) -> f32
     cell_of(flat, cost)
 }
 
+// The same of the windows at (x, y) of the reference and at (other, y) of the target, whose sum of products is given.
+pub fn summed_cost(
+    room: &[u64],
+    w: usize,
+    h: usize,
+    r: usize,
+    x: usize,
+    other: usize,
+    y: usize,
+    products: u64,
+) -> f32
+    requires { ⌜ Summed (now room) w h r x other y products ⌝ }
+    ensures { λ v. ⌜ ((s : ℤ) (a b : List ℕ) → TablesOf (now (room .entry)) w h r a b → products ≡ windowSum (crossAt w a b s) x y r → v ≡ stored (pairCost w r a b s x other y)) ⌝ }
+{
+    let side = w + 1;
+    let cells = side * (h + 1);
+    let top = (y - r) * side;
+    let here = top + (x - r);
+    let there = top + (other - r);
+    let n = 2 * r + 1;
+    let cov = covariance(
+        (n * n) as u64,
+        room[here],
+        room[2 * cells + there],
+        products,
+    );
+    quotient(cov as f64, room[cells + here], room[3 * cells + there])
+}
+
 // The cell of the raw cost of the window at (x, y) of the reference and the one at (other, y) of the target.
 pub fn pair_cost(
     room: &[u64],
@@ -76,17 +107,7 @@ pub fn pair_cost(
     ensures { λ v. ⌜ ((s : ℤ) (a b : List ℕ) → RoomOf (now (room .entry)) w h r s a b → v ≡ stored (pairCost w r a b s x other y)) ⌝ }
 {
     let side = w + 1;
-    let cells = side * (h + 1);
-    let top = (y - r) * side;
-    let here = top + (x - r);
-    let there = top + (other - r);
-    let n = 2 * r + 1;
-    let products = window_sum(room, side, 4 * cells + here, n);
-    let cov = covariance(
-        (n * n) as u64,
-        room[here],
-        room[2 * cells + there],
-        products,
-    );
-    quotient(cov as f64, room[cells + here], room[3 * cells + there])
+    let corner = (y - r) * side + (x - r);
+    let products = window_sum(room, side, 4 * (side * (h + 1)) + corner, 2 * r + 1);
+    summed_cost(room, w, h, r, x, other, y, products)
 }

@@ -8,3 +8,4 @@ pub mod Turns
 pub mod Tail
 pub mod Outcomes
 pub mod Ranges
+pub mod SideMaps

@@ -13,10 +13,13 @@ use Rattle.lists.specs.Steps.{Or}
 use Rattle.sheets.specs.Sheet.{Sheet}
 use Rattle.netpbm.specs.declared.raster.Size.{Size}
 use Rattle.netpbm.specs.Raster.{Raster}
+use Rattle.options.specs.declared.BlockMatchOptions.{BlockMatchOptions}
+use Rattle.refusals.specs.declared.Call.{Call}
+use Rattle.vendor.specs.declared.Verdict.{Verdict}
 use Rattle.volume.specs.declared.site.Site.{Site}
 use Rattle.volume.specs.declared.site.Shape.{Shape}
 use Rattle.volume.specs.declared.heap.Figures.{Figures}
-use Rattle.plombrisa.specs.Answers.{RangeTold, PointTold, PointsTold, WriteTold, SaidTold, ReadTold, SizeTold, RasterTold, ShapeTold, VolumeTold}
+use Rattle.plombrisa.specs.Answers.{RangeTold, PointTold, PointsTold, WriteTold, SaidTold, ReadTold, SizeTold, RasterTold, ShapeTold, VolumeTold, VerdictTold, CheckTold}
 
 -- THEOREM: of a pixel, a reading between pixels, a number of valid cells and a cover figure: the answer and the lent number
 pub one-number : {A : Type 0} {number : ℕ} {value : A} {n m : ℕ} {v u : A} → (n ≡ number) × (v ≡ value) → (m ≡ number) × (u ≡ value) → (n ≡ m) × (v ≡ u)
@@ -73,3 +76,14 @@ one-shape x y = (x .answer ∙ sym (y .answer), x .columns ∙ sym (y .columns),
 pub one-heap : {s : Site} {xs ys zs : List Float} {grid : List ℕ} {four : Figures} {n m : ℕ} {grid₁ grid₂ : List ℕ} {four₁ four₂ : Figures}
     → VolumeTold n s xs ys zs grid grid₁ four four₁ → VolumeTold m s xs ys zs grid grid₂ four four₂ → (n ≡ m) × (four₁ ≡ four₂) × (grid₁ ≡ grid₂)
 one-heap x y = (x .told .answer ∙ sym (y .told .answer), x .told .figures ∙ sym (y .told .figures), x .grids ∙ sym (y .grids))
+
+-- THEOREM: of a check on a vendor's map
+pub one-verdict : {v : Verdict} {passed x y n m passed₁ passed₂ x₁ x₂ y₁ y₂ : ℕ}
+    → VerdictTold n v passed passed₁ x x₁ y y₁ → VerdictTold m v passed passed₂ x x₂ y y₂ → (n ≡ m) × (passed₁ ≡ passed₂) × (x₁ ≡ x₂) × (y₁ ≡ y₂)
+one-verdict a b = (a .answer ∙ sym (b .answer), a .passes ∙ sym (b .passes), a .columns ∙ sym (b .columns), a .rows ∙ sym (b .rows))
+
+pub one-check : {q : Call} {o : BlockMatchOptions} {left right : List ℕ} {w h : ℕ} {map : List Float} {room : List ℕ} {passed x y n m : ℕ}
+    {room₁ room₂ : List ℕ} {passed₁ passed₂ x₁ x₂ y₁ y₂ : ℕ}
+    → CheckTold n q o left right w h map room room₁ passed passed₁ x x₁ y y₁ → CheckTold m q o left right w h map room room₂ passed passed₂ x x₂ y y₂
+    → ((n ≡ m) × (passed₁ ≡ passed₂) × (x₁ ≡ x₂) × (y₁ ≡ y₂)) × (room₁ ≡ room₂)
+one-check a b = (one-verdict (a .told) (b .told), a .rooms ∙ sym (b .rooms))

@@ -33,6 +33,12 @@ use Rattle.sheets.specs.Code.{kindNumber}
 use Rattle.sheets.specs.Sheet.{Sheet}
 use Rattle.lists.specs.Writes.{roomFor, byteCount, outAfter}
 use Rattle.sheets.specs.Outcome.{cellsFor, sizeSaid, cellsAfter}
+use Rattle.options.specs.declared.BlockMatchOptions.{BlockMatchOptions}
+use Rattle.refusals.specs.declared.Call.{Call}
+use Rattle.costs.specs.Outcome.{roomAfter}
+use Rattle.vendor.specs.declared.Verdict.{Verdict}
+use Rattle.vendor.specs.declared.Verdict.the-variants as verdict
+use Rattle.vendor.specs.Outcome as vendor
 use Rattle.volume.specs.declared.site.Site.{Site}
 use Rattle.volume.specs.declared.site.Shape.{Shape}
 use Rattle.volume.specs.declared.site.Shape.the-variants as shape
@@ -233,3 +239,35 @@ pub record HeapTold (n : ℕ) (h : Heap) (four four′ : Figures) : Type 0 where
 pub record VolumeTold (n : ℕ) (s : Site) (xs ys zs : List Float) (grid grid′ : List ℕ) (four four′ : Figures) : Type 0 where
   pub told : HeapTold n (heapOf s xs ys zs (length grid)) four four′
   pub grids : grid′ ≡ gridAfter s xs ys zs grid
+
+-- of a vendor's map: whether it passed, 1 or 0, and column and row of the first bad cell, which are as they were where there is none
+abbrev pub verdictRefusal : Verdict → ℕ
+verdictRefusal verdict.Yes = 0
+verdictRefusal (verdict.No x y) = 0
+verdictRefusal (verdict.Refused n) = n
+
+abbrev pub passedAfter : Verdict → ℕ → ℕ
+passedAfter verdict.Yes was = 1
+passedAfter (verdict.No x y) was = 0
+passedAfter (verdict.Refused n) was = was
+
+abbrev pub columnAfter : Verdict → ℕ → ℕ
+columnAfter verdict.Yes was = was
+columnAfter (verdict.No x y) was = x
+columnAfter (verdict.Refused n) was = was
+
+abbrev pub rowAfter : Verdict → ℕ → ℕ
+rowAfter verdict.Yes was = was
+rowAfter (verdict.No x y) was = y
+rowAfter (verdict.Refused n) was = was
+
+pub record VerdictTold (n : ℕ) (v : Verdict) (passed passed′ x x′ y y′ : ℕ) : Type 0 where
+  pub answer : n ≡ verdictRefusal v
+  pub passes : passed′ ≡ passedAfter v passed
+  pub columns : x′ ≡ columnAfter v x
+  pub rows : y′ ≡ rowAfter v y
+
+-- the verdict is that of the call, and the room is as after it
+pub record CheckTold (n : ℕ) (q : Call) (o : BlockMatchOptions) (left right : List ℕ) (w h : ℕ) (map : List Float) (room room′ : List ℕ) (passed passed′ x x′ y y′ : ℕ) : Type 0 where
+  pub told : VerdictTold n (vendor.answerOf (vendor.vendorRefusal q w h (length map)) (q .«left_w») (q .«left_h») o left right map) passed passed′ x x′ y y′
+  pub rooms : room′ ≡ roomAfter (vendor.vendorRefusal q w h (length map)) q room

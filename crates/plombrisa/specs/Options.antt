@@ -49,6 +49,22 @@ rawOptions first count block = record {
   «sgm_p2» = defaultOptions .«sgm_p2»;
 }
 
+-- the options of a check on a vendor's map, which reads these four
+abbrev pub checkOptions : ℤ → ℤ → ℕ → Float → BlockMatchOptions
+checkOptions first count block least = record {
+  «min_disparity» = first;
+  «num_disparities» = count;
+  «block_size» = block;
+  «min_correlation» = least;
+  «uniqueness_ratio» = defaultOptions .«uniqueness_ratio»;
+  «lr_consistency» = defaultOptions .«lr_consistency»;
+  «lr_max_diff» = defaultOptions .«lr_max_diff»;
+  subpixel = defaultOptions .subpixel;
+  «semi_global» = defaultOptions .«semi_global»;
+  «sgm_p1» = defaultOptions .«sgm_p1»;
+  «sgm_p2» = defaultOptions .«sgm_p2»;
+}
+
 -- the camera's numbers and the baseline, one parameter each
 abbrev pub intrinsicsOf : Float → Float → Float → Float → Float → Intrinsics
 intrinsicsOf fx fy cx cy baseline = record { fx = fx; fy = fy; cx = cx; cy = cy; baseline = baseline }

@@ -1,5 +1,6 @@
 // The functions for C and Rust hosts. A slice is its pointer and then its length. Names and order are fixed: nothing checks
 // the declaration on the other side.
+pub mod check;
 pub mod file;
 pub mod heap;
 pub mod map;

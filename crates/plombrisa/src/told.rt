@@ -1,8 +1,9 @@
 // What an answer tells a host, with what it found in the lent numbers.
 ghost use mathlib.Core.Path.{_≡_};
-ghost use Rattle.plombrisa.specs.Answers.{writtenRefusal, writtenAfter, SizeTold, ShapeTold, figuresIn, HeapTold};
+ghost use Rattle.plombrisa.specs.Answers.{writtenRefusal, writtenAfter, SizeTold, ShapeTold, figuresIn, HeapTold, VerdictTold};
 use lists::Written;
 use netpbm::raster::Size;
+use vendor::Verdict;
 use volume::heap::Heap;
 use volume::site::Shape;
 
@@ -64,6 +65,25 @@ pub fn tell_heap(
             *inside = f.inside as u64;
             *outside = f.outside as u64;
             *empty = f.empty as u64;
+            0
+        }
+    }
+}
+
+// What an answer says: whether a vendor's map passed, 1 or 0, and column and row of the first bad cell in the lent numbers.
+pub fn tell_verdict(answer: Verdict, passed: &mut u32, x: &mut u64, y: &mut u64) -> u32
+    ensures { λ n. ⌜ VerdictTold n answer (now (passed .entry)) (now (passed .exit)) (now (x .entry)) (now (x .exit)) (now (y .entry)) (now (y .exit)) ⌝ }
+{
+    match answer {
+        Verdict::Refused(n) => n,
+        Verdict::Yes => {
+            *passed = 1;
+            0
+        }
+        Verdict::No(column, row) => {
+            *passed = 0;
+            *x = column as u64;
+            *y = row as u64;
             0
         }
     }

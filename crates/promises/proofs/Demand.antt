@@ -24,7 +24,8 @@ use Rattle.promises.specs.Changes.{Misses, Inside, NoRows, OneLevel, Cha
 use Rattle.promises.specs.Demand.{BlockMode, Kept}
 use Rattle.promises.proofs.Pairs.{sizes, raw-same, volumes-same}
 use Rattle.promises.proofs.Blank.{raw-blank}
-use Rattle.promises.proofs.Maps.{side-length, side-at, cell-same, cell-blank}
+use Rattle.matching.proofs.SideMaps.{side-length, side-at}
+use Rattle.promises.proofs.Maps.{cell-same, cell-blank}
 use Rattle.promises.proofs.Rows.{row-same, row-of}
 use Rattle.promises.proofs.Agreeing.{tested-length, mark-stays, tested-rows}
 

@@ -1,4 +1,4 @@
--- Demand 3: `Demand` has the theorem, `Examples` its worked pairs, and the modules before it what it leans on. `Refused`, `FilesRefused`, `HeapsRefused` and `RowsRefused`: the numbers given back. `Counted`: the points of a map, measured. `Outcomes`: each call has one outcome.
+-- Demand 3: `Demand` has the theorem, `Examples` its worked pairs, and the modules before it what it leans on. `Refused`, `FilesRefused`, `HeapsRefused`, `RowsRefused` and `VendorsRefused`: the numbers given back. `Counted`: the points of a map, measured. `Outcomes`: each call has one outcome.
 pub mod Pairs
 pub mod Blank
 pub mod Maps
@@ -11,5 +11,6 @@ pub mod Refused
 pub mod FilesRefused
 pub mod HeapsRefused
 pub mod RowsRefused
+pub mod VendorsRefused
 pub mod Counted
 pub mod Outcomes

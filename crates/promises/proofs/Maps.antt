@@ -2,11 +2,11 @@
 use Prim.Native.Nat.{ℕ, zero, suc, _+_, _*_, _<_}
 use mathlib.Core.Path.{_≡_, refl, ap, _∙_}
 use mathlib.Core.Bool.{Bool, true, false, cond}
-use mathlib.Core.List.{List, map}
-use lib.ListN.{length, getD}
+use mathlib.Core.List.{List}
+use lib.ListN.{getD}
 use lib.Ieee.{Float, nan, inf, eq}
 use Rattle.lists.specs.Lists.{listOf, walk}
-use Rattle.lists.proofs.Lists.{listOf-at, listOf-length, listOf-same, map-listOf}
+use Rattle.lists.proofs.Lists.{listOf-same}
 use Rattle.options.specs.Costs.{rawOf}
 use Rattle.options.specs.declared.BlockMatchOptions.{BlockMatchOptions}
 use Rattle.options.specs.declared.RawCost.{RawCost}
@@ -17,28 +17,9 @@ use Rattle.choices.specs.declared.block.Best.the-variants.{Nothing}
 use Rattle.choices.specs.declared.block.Gates.{Gates}
 use Rattle.choices.specs.declared.subpixel.Search.{Search}
 use Rattle.choices.specs.Frame.{inner}
-use Rattle.choices.specs.Block.{costsOf, better, bestOf, gated, blockChoice, blockCell, blockMap}
-use Rattle.choices.specs.SemiGlobal.{semiMap}
-use Rattle.matching.specs.Maps.{half, countOf, searchOf, gatesOf, sumsFrom, sideMap}
-use Rattle.promises.specs.Demand.{BlockMode}
-
--- the cell of pixel p by a raw volume
-abbrev pub cellFrom : ℕ → ℕ → BlockMatchOptions → List Float → ℕ → Float
-cellFrom w h o v p = inBuffer (blockCell w h (half o) (searchOf o) (gatesOf o) v p)
-
--- ---- the map made from one side's raw volume, cell by cell
-module _ (w h : ℕ) (o : BlockMatchOptions) (b : BlockMode o) (v : List Float) where
-  side-is : sideMap w h o v ≡ listOf (w * h) (cellFrom w h o v)
-  unfolding blockMap
-  side-is =
-      ap (λ t. map inBuffer (cond t (semiMap w h (half o) (searchOf o) (sumsFrom w h o v)) (blockMap w h (half o) (searchOf o) (gatesOf o) v))) b
-      ∙ map-listOf inBuffer (w * h) (blockCell w h (half o) (searchOf o) (gatesOf o) v)
-
-  pub side-length : length (sideMap w h o v) ≡ w * h
-  side-length = ap length side-is ∙ listOf-length (w * h) _
-
-  pub side-at : (p : ℕ) → p < w * h → getD (sideMap w h o v) p nan ≡ cellFrom w h o v p
-  side-at p l = ap (λ m. getD m p nan) side-is ∙ listOf-at (w * h) _ p nan l
+use Rattle.choices.specs.Block.{costsOf, better, bestOf, gated, blockChoice, blockCell}
+use Rattle.matching.specs.Maps.{half, countOf, searchOf, gatesOf}
+use Rattle.matching.proofs.SideMaps.{cellFrom}
 
 -- ---- two raw volumes that agree at a pixel
 costs-same : (v v′ : List Float) (area p n : ℕ) → ((i : ℕ) → i < n → getD v (i * area + p) nan ≡ getD v′ (i * area + p) nan) → costsOf v area p n ≡ costsOf v′ area p n

@@ -35,6 +35,9 @@ use Rattle.costs.specs.Outcome.{rawCall, RawDone}
 use Rattle.costs.proofs.Outcomes as costs
 use Rattle.matching.specs.Outcome.{matchCall, MatchDone}
 use Rattle.matching.proofs.Outcomes as matching
+use Rattle.vendor.specs.declared.Verdict.{Verdict}
+use Rattle.vendor.specs.Outcome.{vendorCall, CheckDone}
+use Rattle.vendor.proofs.Outcomes as vendor
 use Rattle.lists.specs.declared.Written.{Written}
 use Rattle.sheets.specs.declared.reading.Said.{Said}
 use Rattle.sheets.specs.Sheet.{sheetOf, readSheet}
@@ -70,6 +73,15 @@ pub raw-volume : (left : List ℕ) (w h : ℕ) (right : List ℕ) (w′ h′ : �
     → (n ≡ n′) × (out₁ ≡ out₂) × (room₁ ≡ room₂)
 raw-volume left w h right w′ h′ o side out room n n′ out₁ out₂ room₁ room₂ =
     costs.one-outcome (rawCall left w h right w′ h′ o (length out) (length room)) side left right out room n n′ out₁ out₂ room₁ room₂
+
+-- a check on a vendor's map: its verdict, and the room afterwards
+pub check-vendor : (left : List ℕ) (w h : ℕ) (right : List ℕ) (w′ h′ : ℕ) (o : BlockMatchOptions) (map : List Float) (mapWidth mapHeight : ℕ) (room : List ℕ)
+    (v v′ : Verdict) (room₁ room₂ : List ℕ)
+    → CheckDone v (vendorCall left w h right w′ h′ o (length room)) o left right mapWidth mapHeight map room room₁
+    → CheckDone v′ (vendorCall left w h right w′ h′ o (length room)) o left right mapWidth mapHeight map room room₂
+    → (v ≡ v′) × (room₁ ≡ room₂)
+check-vendor left w h right w′ h′ o map mapWidth mapHeight room =
+    vendor.one-outcome (vendorCall left w h right w′ h′ o (length room)) o left right mapWidth mapHeight map room
 
 -- the refusal of a call
 pub refusal : (q : Call) (n n′ : ℕ) → n ≡ refusals.refusal q → n′ ≡ refusals.refusal q → n ≡ n′

@@ -6,3 +6,4 @@ pub mod Witnesses
 pub mod FileWitnesses
 pub mod HeapWitnesses
 pub mod RowWitnesses
+pub mod VendorWitnesses

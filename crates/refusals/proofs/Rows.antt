@@ -1,17 +1,17 @@
 -- What it means that no row applies. Assumes nothing.
 use Prim.Native.Nat.{ℕ, zero, suc, _+_, _*_, _/_, _%_, _≤_, _<_}
 use mathlib.Core.Path.{_≡_, refl, sym, ap, ap₂, _∙_}
-use mathlib.Core.Bool.{Bool, true, false, cond, not, _&&_}
+use mathlib.Core.Bool.{Bool, true, false, cond}
 use mathlib.Core.List.{List, [], _∷_, _++_, append-assoc}
 use native.Mathlib.Nat.{mul-le-mul}
 use native.Mathlib.Omega.{arith}
 use borrow.Author.Tests.{ltb-false, eqb-true, eqb-false, not-false}
 use lib.Dec.{eqb, ltb, lit<}
-use lib.IntN.{pos, natAbs}
+use lib.IntN.{natAbs}
 use Rattle.lists.proofs.Tests.{and-both, or-false}
 use Rattle.options.specs.Limits.{sideMost, blockMost, countMost}
 use Rattle.refusals.specs.declared.Call.{Call}
-use Rattle.refusals.specs.Refusals.{Row, firstOf, inRange, pictureRows, searchRows, penaltyRows, outCells, wholeCells, floatCells, lentRows, table, refusal}
+use Rattle.refusals.specs.Refusals.{Row, firstOf, inRange, pictureRows, searchRows, pairRows, penaltyRows, wholeCells, floatCells, lentRows, table, refusal}
 use Rattle.refusals.specs.Accepted.{Sizes, Accepted}
 use Rattle.refusals.proofs.Tests.{ranged, positive, at-most, near}
 
@@ -65,63 +65,65 @@ pub search-numbered : (q : Call) → Numbered (searchRows q)
 unfolding searchRows
 search-numbered q = (lit< tt, (lit< tt, (lit< tt, (lit< tt, (lit< tt, (lit< tt, tt))))))
 
+both-numbered : (a b : List Row) → Numbered a → Numbered b → Numbered (a ++ b)
+both-numbered [] b n m = m
+both-numbered (r ∷ rows) b n m = (n .0, both-numbered rows b (n .1) m)
+
 pub penalty-numbered : (q : Call) → Numbered (penaltyRows q)
 unfolding penaltyRows
 penalty-numbered q = (lit< tt, tt)
 
--- ---- the four groups of the table
+-- ---- the groups of the table
+-- rows 1 to 9: two groups
 module _ (q : Call) where
-  rest₃ : List Row
-  rest₃ = penaltyRows q ++ lentRows q
+  pub by-pictures : (m : ℕ) → m ≡ firstOf (pictureRows q) → (m ≡ 0 → ⊥) → m ≡ firstOf (pairRows q)
+  by-pictures = by-first (pictureRows q) (searchRows q) (pictures-numbered q)
 
-  rest₂ : List Row
-  rest₂ = searchRows q ++ rest₃
+  pub by-search : firstOf (pictureRows q) ≡ 0 → (m : ℕ) → m ≡ firstOf (searchRows q) → m ≡ firstOf (pairRows q)
+  by-search p m e = e ∙ sym (by-rest (pictureRows q) (searchRows q) (pictures-numbered q) p)
 
-  table-is : refusal q ≡ firstOf (pictureRows q ++ rest₂)
-  unfolding refusal table rest₂ rest₃
-  table-is = ap firstOf (append-assoc (pictureRows q ++ searchRows q) (penaltyRows q) (lentRows q) ∙ append-assoc (pictureRows q) (searchRows q) (penaltyRows q ++ lentRows q))
+pub pair-numbered : (q : Call) → Numbered (pairRows q)
+pair-numbered q = both-numbered (pictureRows q) (searchRows q) (pictures-numbered q) (search-numbered q)
 
-  pub by-pictures : (m : ℕ) → m ≡ firstOf (pictureRows q) → (m ≡ 0 → ⊥) → m ≡ refusal q
-  by-pictures m e some = by-first (pictureRows q) rest₂ (pictures-numbered q) m e some ∙ sym table-is
+-- all rows: those, and two groups more
+module _ (q : Call) where
+  rest : List Row
+  rest = penaltyRows q ++ lentRows q
 
-  module _ (p : firstOf (pictureRows q) ≡ 0) where
-    past-pictures : refusal q ≡ firstOf rest₂
-    past-pictures = table-is ∙ by-rest (pictureRows q) rest₂ (pictures-numbered q) p
+  table-is : refusal q ≡ firstOf (pairRows q ++ rest)
+  unfolding refusal table rest
+  table-is = ap firstOf (append-assoc (pairRows q) (penaltyRows q) (lentRows q))
 
-    pub by-search : (m : ℕ) → m ≡ firstOf (searchRows q) → (m ≡ 0 → ⊥) → m ≡ refusal q
-    unfolding rest₂
-    by-search m e some = by-first (searchRows q) rest₃ (search-numbered q) m e some ∙ sym past-pictures
+  pub by-pair : (m : ℕ) → m ≡ firstOf (pairRows q) → (m ≡ 0 → ⊥) → m ≡ refusal q
+  by-pair m e some = by-first (pairRows q) rest (pair-numbered q) m e some ∙ sym table-is
 
-    module _ (s : firstOf (searchRows q) ≡ 0) where
-      past-search : refusal q ≡ firstOf rest₃
-      unfolding rest₂
-      past-search = past-pictures ∙ by-rest (searchRows q) rest₃ (search-numbered q) s
+  module _ (p : firstOf (pairRows q) ≡ 0) where
+    past-pair : refusal q ≡ firstOf rest
+    past-pair = table-is ∙ by-rest (pairRows q) rest (pair-numbered q) p
 
-      pub by-penalty : (m : ℕ) → m ≡ firstOf (penaltyRows q) → (m ≡ 0 → ⊥) → m ≡ refusal q
-      unfolding rest₃
-      by-penalty m e some = by-first (penaltyRows q) (lentRows q) (penalty-numbered q) m e some ∙ sym past-search
+    pub by-penalty : (m : ℕ) → m ≡ firstOf (penaltyRows q) → (m ≡ 0 → ⊥) → m ≡ refusal q
+    unfolding rest
+    by-penalty m e some = by-first (penaltyRows q) (lentRows q) (penalty-numbered q) m e some ∙ sym past-pair
 
-      pub by-lent : firstOf (penaltyRows q) ≡ 0 → (m : ℕ) → m ≡ firstOf (lentRows q) → m ≡ refusal q
-      unfolding rest₃
-      by-lent t m e = e ∙ sym (past-search ∙ by-rest (penaltyRows q) (lentRows q) (penalty-numbered q) t)
+    pub by-lent : firstOf (penaltyRows q) ≡ 0 → (m : ℕ) → m ≡ firstOf (lentRows q) → m ≡ refusal q
+    unfolding rest
+    by-lent t m e = e ∙ sym (past-pair ∙ by-rest (penaltyRows q) (lentRows q) (penalty-numbered q) t)
 
   -- no row of any group applies
   pub record None : Type 0 where
-    pub pictures : firstOf (pictureRows q) ≡ 0
-    pub search : firstOf (searchRows q) ≡ 0
+    pub pair : firstOf (pairRows q) ≡ 0
     pub penalty : firstOf (penaltyRows q) ≡ 0
     pub lent : firstOf (lentRows q) ≡ 0
 
   pub none : refusal q ≡ 0 → None
-  unfolding rest₂ rest₃
+  unfolding rest
   none e =
-      let one = none-of (pictureRows q) rest₂ (pictures-numbered q) (sym table-is ∙ e) in
-      let two = none-of (searchRows q) rest₃ (search-numbered q) (one .1) in
-      let three = none-of (penaltyRows q) (lentRows q) (penalty-numbered q) (two .1) in
-      record { pictures = one .0; search = two .0; penalty = three .0; lent = three .1 }
+      let one = none-of (pairRows q) rest (pair-numbered q) (sym table-is ∙ e) in
+      let two = none-of (penaltyRows q) (lentRows q) (penalty-numbered q) (one .1) in
+      record { pair = one .0; penalty = two .0; lent = two .1 }
 
 -- ---- a row that does not apply
-passed : (n : ℕ) → 0 < n → (t : Bool) (after : ℕ) → cond t n after ≡ 0 → (t ≡ false) × (after ≡ 0)
+pub passed : (n : ℕ) → 0 < n → (t : Bool) (after : ℕ) → cond t n after ≡ 0 → (t ≡ false) × (after ≡ 0)
 passed n some true after e = absurd (omega arith)
 passed n some false after e = (refl, e)
 
@@ -129,13 +131,14 @@ half : (block : ℕ) → (block % 2 ≡ 0 → ⊥) → 2 * (block / 2) < block
 half block odd = omega arith
 
 -- rows 1 to 9 do not apply
-pub sizes : (q : Call) → firstOf (pictureRows q) ≡ 0 → firstOf (searchRows q) ≡ 0 → Sizes q
+pub sizes : (q : Call) → firstOf (pairRows q) ≡ 0 → Sizes q
 unfolding firstOf pictureRows searchRows
-sizes q p s =
-    let one = passed 1 (lit< tt) _ _ p in
+sizes q none =
+    let groups = none-of (pictureRows q) (searchRows q) (pictures-numbered q) none in
+    let one = passed 1 (lit< tt) _ _ (groups .0) in
     let two = passed 2 (lit< tt) _ _ (one .1) in
     let three = passed 3 (lit< tt) _ _ (two .1) in
-    let four = passed 4 (lit< tt) _ _ s in
+    let four = passed 4 (lit< tt) _ _ (groups .1) in
     let five = passed 5 (lit< tt) _ _ (four .1) in
     let six = passed 6 (lit< tt) _ _ (five .1) in
     let seven = passed 7 (lit< tt) _ _ (six .1) in
@@ -186,7 +189,7 @@ accepted q e =
     let twelve = passed 12 (lit< tt) _ _ (eleven .1) in
     let rooms = or-false (ltb (q .«whole_len») (wholeCells q)) (ltb (q .«float_len») (floatCells q (q .output))) (twelve .0) in
     record {
-      sizes = sizes q (n .pictures) (n .search);
+      sizes = sizes q (n .pair);
       penalties = ten .0;
       out-cells = eqb-true _ _ (not-false _ (eleven .0));
       whole-cells = ltb-false _ _ (rooms .0);

@@ -47,6 +47,10 @@ searchRows q =
     ∷ row 9 (ltZ (q .first) (negℤ (pos firstMost)) || ltZ (pos firstMost) (q .first))
     ∷ []
 
+-- 1 to 9: the pair and what is searched in it
+abbrev pub pairRows : Call → List Row
+pairRows q = pictureRows q ++ searchRows q
+
 -- whether the call makes a semi-global map
 abbrev pub semiGlobal : Output → Bool → Bool
 semiGlobal Volume mode = false
@@ -87,7 +91,7 @@ lentRows q =
 
 -- THE TABLE, in document 01's order
 unfoldable pub table : Call → List Row
-table q = pictureRows q ++ searchRows q ++ penaltyRows q ++ lentRows q
+table q = pairRows q ++ penaltyRows q ++ lentRows q
 
 -- THE REFUSAL of a call: the number of the first row that applies, 0 for none
 unfoldable pub refusal : Call → ℕ

@@ -1,7 +1,7 @@
 // The numbers given back (document 01, "Numbers given back"), in the table's order; 0 is none.
 ghost use mathlib.Core.Path.{_≡_};
 ghost use Rattle.options.specs.Limits.{isPenalty};
-ghost use Rattle.refusals.specs.Refusals.{inRange, firstOf, pictureRows, searchRows, penaltyRows, volume, outCells, floatCells, lentRows, refusal};
+ghost use Rattle.refusals.specs.Refusals.{inRange, firstOf, pictureRows, searchRows, pairRows, penaltyRows, volume, outCells, floatCells, lentRows, refusal};
 ghost use Rattle.refusals.specs.Accepted.{Sizes};
 use options::BLOCK_MOST;
 use options::COUNT_MOST;
@@ -102,6 +102,17 @@ fn search_refusal(call: Call) -> u32
     0
 }
 
+// Rows 1 to 9: the pair and what is searched in it.
+pub fn pair_refusal(call: Call) -> u32
+    ensures { λ n. ⌜ n ≡ firstOf (pairRows call) ⌝ }
+{
+    let pictures = picture_refusal(call);
+    if pictures != 0 {
+        return pictures;
+    }
+    search_refusal(call)
+}
+
 // A number from 0 to the largest penalty.
 pub fn is_penalty(p: f32) -> bool
     ensures { λ t. ⌜ t ≡ isPenalty p ⌝ }
@@ -188,13 +199,9 @@ fn lent_refusal(call: Call) -> u32
 pub fn refusal(call: Call) -> u32
     ensures { λ n. ⌜ n ≡ refusal call ⌝ }
 {
-    let pictures = picture_refusal(call);
-    if pictures != 0 {
-        return pictures;
-    }
-    let search = search_refusal(call);
-    if search != 0 {
-        return search;
+    let pair = pair_refusal(call);
+    if pair != 0 {
+        return pair;
     }
     let penalties = penalty_refusal(call);
     if penalties != 0 {

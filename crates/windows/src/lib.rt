@@ -61,7 +61,8 @@ pub fn fill_levels(table: &mut [u64], pic: &[u8], w: usize, h: usize)
     }
 }
 
-fn product(a: u8, b: u8) -> u64
+// The product of two levels.
+pub fn product(a: u8, b: u8) -> u64
     ensures { λ r. ⌜ r ≡ a * b ⌝ }
 {
     wide(a) * wide(b)

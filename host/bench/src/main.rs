@@ -6,12 +6,14 @@
 //! `bench netpbm [REPEATS]` prints what the PGM file of a picture of 640x480 and the PFM file of that map take.
 //! `bench volume [REPEATS]` prints what the volume of a heap of 640x480 points takes.
 //! `bench rows [REPEATS]` prints what the row index of a map takes, and what one edit beside it does.
+//! `bench vendor [REPEATS]` prints what the check of a vendor's map takes, and the match that made the map.
 //! `bench once library|rust|nothing block|semi-global` makes one map of 640x480x64, or only what both are made from, and prints
 //! nothing, so that a counter of instructions has one thing to count.
 mod memory;
 mod netpbm;
 mod rows;
 mod sheets;
+mod vendor;
 mod volume;
 
 use memory::peak_of;
@@ -205,6 +207,9 @@ fn main() {
     }
     if let Some(repeats) = repeats_after("rows") {
         return rows::table(repeats);
+    }
+    if let Some(repeats) = repeats_after("vendor") {
+        return vendor::table(repeats);
     }
     let repeats = words.first().map_or(3, |n| n.parse().expect("REPEATS is a whole number"));
     println!("block 7, left-right on, best of {repeats}; every map was compared cell by cell");

@@ -1,4 +1,5 @@
 //! One call: two pictures, options, and what is lent.
+use runs::pictures::{other_picture, picture, textured_pair};
 use runs::rng::Rng;
 use plombrisa::{Options, float_cells, whole_cells};
 
@@ -101,35 +102,6 @@ impl Case {
     }
 }
 
-/// A picture by one of several recipes.
-fn picture(rng: &mut Rng, w: usize, h: usize) -> Vec<u8> {
-    let levels = rng.pick(&[1, 2, 3, 16, 256]);
-    let base = rng.below(257 - levels);
-    let mut bytes: Vec<u8> = (0..w * h).map(|_| (base + rng.below(levels)) as u8).collect();
-    if rng.one_in(3) {
-        // a band of one level
-        let (top, level) = (rng.below(h), rng.below(256) as u8);
-        let rows = rng.below(h - top) + 1;
-        bytes[top * w..(top + rows) * w].fill(level);
-    }
-    bytes
-}
-
-/// The right picture: the left one moved by a few columns, with some pixels changed, or one of its own.
-fn other_picture(rng: &mut Rng, left: &[u8], w: usize, h: usize) -> Vec<u8> {
-    if rng.one_in(3) {
-        return picture(rng, w, h);
-    }
-    let shift = rng.within(-4, 6);
-    let noise = rng.pick(&[0, 0, 8, 3]);
-    (0..w * h)
-        .map(|i| {
-            let x = ((i % w) as i64 + shift).rem_euclid(w as i64) as usize;
-            if noise != 0 && rng.one_in(noise) { rng.below(256) as u8 } else { left[i / w * w + x] }
-        })
-        .collect()
-}
-
 fn gate(rng: &mut Rng) -> f32 {
     let usual = rng.below(2001) as f32 / 1000.0 - 1.0;
     rng.pick(&[usual, usual, 0.5, 0.03, 0.0, -0.0, 1.0, -1.0, 2.0, f32::NAN, f32::INFINITY, f32::NEG_INFINITY, 1e-45])
@@ -171,15 +143,7 @@ pub fn small(rng: &mut Rng) -> Case {
 
 /// A textured pair of a given size, mostly like what a site would send.
 pub fn textured(rng: &mut Rng, w: usize, h: usize) -> Case {
-    let coarse: Vec<u8> = (0..(w / 3 + 2) * (h / 3 + 2)).map(|_| rng.below(256) as u8).collect();
-    let at = |x: usize, y: usize, fine: u8| (coarse[y / 3 * (w / 3 + 2) + x / 3] / 2).saturating_add(fine % 64);
-    let left: Vec<u8> = (0..w * h).map(|i| at(i % w, i / w, rng.next() as u8)).collect();
-    let right: Vec<u8> = (0..w * h)
-        .map(|i| {
-            let (x, y) = (i % w, i / w);
-            left[y * w + (x + 3 + y * 9 / h).min(w - 1)].saturating_add((rng.below(4)) as u8)
-        })
-        .collect();
+    let [left, right] = textured_pair(rng, w, h);
     let mut options = options(rng, &[3, 5, 7, 9], 32);
     options.min_disparity = rng.within(-2, 3) as i32;
     Case::of(w, h, left, right, options)

@@ -119,4 +119,15 @@ uint32_t plombrisa_edit_cell(
     float *cells, size_t cells_len, size_t width, size_t height, size_t x, size_t y, float value,
     plombrisa_row_record *index, size_t index_len);
 
+/* A check on the vendor's matcher: passed is 1, and x and y are left as they were, where every finite cell of a map of the pictures'
+ * size is a disparity of the searched range whose raw cost, the left picture being the reference, is not blank, is not below
+ * min_correlation and is not beaten by that of another disparity; else passed is 0, and (x, y) is the first cell by rows that is not
+ * so. whole_room needs 5(w+1)(h+1) cells. */
+uint32_t plombrisa_check_vendor(
+    const uint8_t *left, size_t left_len, size_t left_width, size_t left_height,
+    const uint8_t *right, size_t right_len, size_t right_width, size_t right_height,
+    int32_t min_disparity, int32_t num_disparities, size_t block_size, float min_correlation,
+    const float *map, size_t map_len, size_t map_width, size_t map_height,
+    uint64_t *whole_room, size_t whole_len, uint32_t *passed, uint64_t *x, uint64_t *y);
+
 #endif

@@ -1,6 +1,6 @@
 //! Plombrisa from Rust: safe functions over the exports of the proved library. Names and order of the exports are fixed in
 //! crates/plombrisa/src; nothing checks these declarations against them but the differential runs, the sheets' run, Netpbm's, the
-//! volume's and the row index's.
+//! volume's, the row index's and the vendor's.
 
 mod maps;
 mod netpbm;
@@ -8,6 +8,7 @@ mod pictures;
 mod points;
 mod rows;
 mod sheets;
+mod vendor;
 mod volume;
 
 pub use maps::{Map, cover, cover_in, valid_count, valid_count_in, valid_range, valid_range_in};
@@ -19,6 +20,7 @@ pub use pictures::{bilinear, bilinear_in, pixel, pixel_in};
 pub use points::{Intrinsics, PointRecord, points, points_in, rectified_point, rectified_point_in};
 pub use rows::{RowIndex, RowRecord, edit_cell_in, fresh_index_in};
 pub use sheets::{Kind, Sheet, read_sheet, read_sheet_in, sheet_length_in, sheet_size_in, write_sheet, write_sheet_in};
+pub use vendor::{Verdict, check_vendor, check_vendor_in};
 pub use volume::{Figures, Heap, Site, heap_shape, heap_shape_in, heap_volume, heap_volume_in};
 
 mod raw {
@@ -130,6 +132,14 @@ mod raw {
         pub fn plombrisa_edit_cell(
             cells: *mut f32, cells_len: usize, width: usize, height: usize, x: usize, y: usize, value: f32,
             index: *mut RowRecord, index_len: usize,
+        ) -> u32;
+
+        pub fn plombrisa_check_vendor(
+            left: *const u8, left_len: usize, left_width: usize, left_height: usize,
+            right: *const u8, right_len: usize, right_width: usize, right_height: usize,
+            min_disparity: i32, num_disparities: i32, block_size: usize, min_correlation: f32,
+            map: *const f32, map_len: usize, map_width: usize, map_height: usize,
+            whole_room: *mut u64, whole_len: usize, passed: *mut u32, x: *mut u64, y: *mut u64,
         ) -> u32;
     }
 }
@@ -257,7 +267,7 @@ impl Refusal {
             RoomTooShort => "a room is too short",
             CameraOutOfRange => "fx or fy is not finite and positive, or cx or cy is not finite",
             BaselineOutOfRange => "the baseline is not finite or not over 1e-12",
-            MapSize => "the map's width or height is outside 1 to 2,048, or its length does not fit them",
+            MapSize => "the map's width or height is outside 1 to 2,048 or not the pictures', or its length does not fit them",
             ListTooShort => "the list is shorter than the points to write",
             CoordinateNan => "a coordinate is NaN",
             PixelOutside => "the pixel is outside the picture or the map",
@@ -302,7 +312,7 @@ fn answer(number: u32) -> Result<(), Refusal> {
     }
 }
 
-/// The cells that a match needs of the whole-number room: 5(w+1)(h+1).
+/// The cells that a match, a raw volume or a check of a vendor's map needs of the whole-number room: 5(w+1)(h+1).
 pub fn whole_cells(width: usize, height: usize) -> usize {
     5 * (width + 1) * (height + 1)
 }

@@ -18,7 +18,7 @@ fn printed(command: &mut Command) -> String {
 #[test]
 fn the_readme_shows_them() {
     let readme = read_to_string(repository().join("README.md")).expect("README.md");
-    for name in ["match.c", "match.rs", "sheet.rs", "netpbm.rs", "volume.rs", "rows.rs"] {
+    for name in ["match.c", "match.rs", "sheet.rs", "netpbm.rs", "volume.rs", "rows.rs", "vendor.rs"] {
         let text = read_to_string(repository().join("host/plombrisa/examples").join(name)).expect(name);
         assert!(readme.contains(&text), "README.md does not show {name} as it is");
     }
@@ -73,4 +73,6 @@ fn the_rust_examples_run() {
     let before = "row 0: RowRecord { count: 2, least: 0.5, greatest: 4.0 }; 5 cells are valid";
     let after = "row 0: RowRecord { count: 1, least: 4.0, greatest: 4.0 }; 4 cells are valid";
     assert_eq!(printed_by_example("rows"), format!("{before}\n{after}\n"));
+    let verdicts = "disparity 1 at (3, 1): yes\ndisparity 0 at (3, 1): no, the cell at (3, 1)\n";
+    assert_eq!(printed_by_example("vendor"), verdicts);
 }

@@ -3,6 +3,20 @@
 #include <string.h>
 #include "plombrisa.h"
 
+typedef struct {
+    uint32_t passed;
+    uint64_t x, y;
+} verdict;
+
+/* The check of a map of one pair of 5 by 3 pixels, with two disparities and block 3. */
+static uint32_t checked(
+    int32_t first, float least, const float *map, size_t map_len, size_t width, size_t height,
+    uint64_t *room, size_t room_len, verdict *at) {
+    const uint8_t left[15] = {9, 1, 4, 7, 2, 9, 1, 4, 7, 2, 9, 1, 4, 7, 2}, right[15] = {1, 4, 7, 2, 5, 1, 4, 7, 2, 5, 1, 4, 7, 2, 5};
+    return plombrisa_check_vendor(
+        left, 15, 5, 3, right, 15, 5, 3, first, 2, 3, least, map, map_len, width, height, room, room_len, &at->passed, &at->x, &at->y);
+}
+
 int main(void) {
     const uint8_t picture[4] = {10, 20, 30, 40};
     uint8_t level = 0;
@@ -113,5 +127,23 @@ int main(void) {
     if (index[1].count != 1 || index[1].least != -2 || index[1].greatest != -2 || index[0].count != 2) return 56;
     if (plombrisa_edit_cell(viewed, 6, 3, 2, 2, 0, NAN, index, 2) != 0 || !isnan(viewed[2]) || viewed[5] != -2) return 57;
     if (index[0].count != 1 || index[0].least != 4 || index[0].greatest != 4 || index[1].count != 1 || index[2].count != 77) return 58;
+
+    /* a cell of the room more than is needed; disparity 1 is the better one at (3, 1), and 2 is not searched */
+    float seen[15] = {NAN, NAN, NAN, NAN, NAN, NAN, NAN, 1, 1, NAN, NAN, NAN, NAN, NAN, INFINITY};
+    uint64_t whole[121];
+    for (int i = 0; i < 121; i++) whole[i] = 7;
+    verdict at = {777, 7, 77};
+    if (checked(0, 0.5f, seen, 15, 3, 5, whole, 121, &at) != 23 || checked(0, 0.5f, seen, 15, 5, 3, whole, 119, &at) != 12) return 59;
+    if (checked(0, 0.5f, seen, 14, 5, 3, whole, 119, &at) != 23 || checked(4097, 0.5f, seen, 14, 5, 3, whole, 119, &at) != 9) return 60;
+    if (at.passed != 777 || at.x != 7 || at.y != 77 || whole[0] != 7 || whole[118] != 7 || whole[119] != 7) return 61;
+    if (checked(0, 0.5f, seen, 15, 5, 3, whole, 121, &at) != 0 || at.passed != 1 || at.x != 7 || at.y != 77) return 62;
+    if (whole[0] != 0 || whole[119] != 0 || whole[120] != 7) return 63;
+    seen[1 * 5 + 3] = 0;
+    seen[2 * 5 + 4] = 2;
+    if (checked(0, 0.5f, seen, 15, 5, 3, whole, 120, &at) != 0 || at.passed != 0 || at.x != 3 || at.y != 1) return 64;
+    seen[1 * 5 + 3] = 1;
+    if (checked(0, 0.5f, seen, 15, 5, 3, whole, 120, &at) != 0 || at.passed != 0 || at.x != 4 || at.y != 2) return 65;
+    /* no raw cost is over 1, so the first of the two cells is bad */
+    if (checked(0, 1.5f, seen, 15, 5, 3, whole, 120, &at) != 0 || at.passed != 0 || at.x != 2 || at.y != 1) return 66;
     return 0;
 }

@@ -28,13 +28,18 @@ impl Tally {
         self.recipes.extend(recipes.into_iter().map(|recipe| (recipe, 0)));
     }
 
+    /// Counts something that came, as a recipe is counted.
+    pub fn came(&mut self, what: &'static str) {
+        *self.recipes.entry(what).or_default() += 1;
+    }
+
     /// Counts the number that an input was answered; a difference between the two sides ends the run.
     pub fn count(&mut self, call: &'static str, recipe: &'static str, input: &impl Debug, answer: Result<u32, String>) {
         let number = answer.unwrap_or_else(|why| {
             println!("seed {}: {recipe}: {why}\n{input:?}", self.seed);
             exit(1);
         });
-        *self.recipes.entry(recipe).or_default() += 1;
+        self.came(recipe);
         let call = self.calls.iter_mut().find(|c| c.name == call).expect("a call of the tally");
         *call.answers.entry(number).or_default() += 1;
     }

@@ -1,12 +1,7 @@
--- `costs::raw::pair_cost` meets its contract: each cell that is read is one that the room's five parts have there. Assumes nothing.
-use Prim.Native.Nat.{_+_, _*_, _≤_}
-use mathlib.Core.Path.{_≡_, ap, _∙_}
-use native.Mathlib.Nat.{mul-le-mul}
+-- `costs::raw::pair_cost` meets its contract: the sum of products is read from its table, and the cost from the others. Assumes nothing.
 use native.Mathlib.Omega.{arith}
-use lib.Ieee.{binary64, ofInt}
-use Rattle.costs.specs.Quotient.{quotientCell}
-use Rattle.costs.proofs.PairCosts.{spots, corners-both, sums-counted, cov-is, cell-is}
-use Rattle.costs.proofs.Quotients.{divisible}
+use Rattle.costs.proofs.Readings.{tables-of, long}
+use Rattle.costs.proofs.PairCosts.{spots-in, corners-both, sum-both, summed}
 use borrow.Author.Needs.{needs}
 use Rattle.costs.proofs.raw.pair_cost.Statement.{statement}
 use Rattle.costs.proofs.raw.pair_cost.Tie as tie
@@ -14,131 +9,60 @@ use Rattle.costs.proofs.raw.pair_cost.Tie as tie
 add-side : tie.Need-add-side
 add-side c = search needs
 
-add-cells : tie.Need-add-cells
-add-cells c = search needs
+sub-corner : tie.Need-sub-corner
+sub-corner c = search needs
 
-mul-cells : tie.Need-mul-cells
-mul-cells c = let z = c .before in omega (arith, spots (z .pre), z .good)
+mul-corner : tie.Need-mul-corner
+mul-corner c = let p = c .before .pre in omega (arith, spots-in (tables-of (p .held)) (p .first) (p .second), c .before .good)
 
-sub-top : tie.Need-sub-top
-sub-top c = search needs
+sub-corner-2 : tie.Need-sub-corner-2
+sub-corner-2 c = search needs
 
-mul-top : tie.Need-mul-top
-mul-top c = let z = c .before in omega (arith, spots (z .pre), z .good)
-
-sub-here : tie.Need-sub-here
-sub-here c = search needs
-
-add-here : tie.Need-add-here
-add-here c = let z = c .before in omega (arith, spots (z .pre), z .good)
-
-sub-there : tie.Need-sub-there
-sub-there c = search needs
-
-add-there : tie.Need-add-there
-add-there c = let z = c .before in omega (arith, spots (z .pre), z .good)
-
-mul-n : tie.Need-mul-n
-mul-n c = search needs
-
-add-n : tie.Need-add-n
-add-n c = search needs
-
-mul-window-sum : tie.Need-mul-window-sum
-mul-window-sum c = let z = c .before in omega (arith, spots (z .pre), z .good)
+add-corner : tie.Need-add-corner
+add-corner c = let p = c .before .pre in omega (arith, spots-in (tables-of (p .held)) (p .first) (p .second), c .before .good)
 
 add-window-sum : tie.Need-add-window-sum
-add-window-sum c = let z = c .before in omega (arith, spots (z .pre), z .good)
+add-window-sum c = search needs
+
+mul-window-sum : tie.Need-mul-window-sum
+mul-window-sum c = let p = c .before .pre in omega (arith, spots-in (tables-of (p .held)) (p .first) (p .second), c .before .good)
+
+mul-window-sum-2 : tie.Need-mul-window-sum-2
+mul-window-sum-2 c = let p = c .before .pre in omega (arith, spots-in (tables-of (p .held)) (p .first) (p .second), c .before .good)
+
+add-window-sum-2 : tie.Need-add-window-sum-2
+add-window-sum-2 c = let p = c .before .pre in omega (arith, spots-in (tables-of (p .held)) (p .first) (p .second), c .before .good)
+
+mul-window-sum-3 : tie.Need-mul-window-sum-3
+mul-window-sum-3 c = search needs
+
+add-window-sum-3 : tie.Need-add-window-sum-3
+add-window-sum-3 c = search needs
 
 window-sum-requires : tie.Need-window-sum-requires
 window-sum-requires c κs = corners-both (c .before .pre)
 
-mul-covariance : tie.Need-mul-covariance
-mul-covariance c = let z = c .before .before in let side : 2 * z .args .r + 1 ≤ 31 = omega (arith, z .pre .held .frame .r-most) in omega (arith, mul-le-mul side side)
-
-mul-covariance-2 : tie.Need-mul-covariance-2
-mul-covariance-2 c = let z = c .before .before in omega (arith, spots (z .pre), z .good)
-
-shared-slice-read-covariance : tie.Need-shared-slice-read-covariance
-shared-slice-read-covariance c = let z = c .before .before .before in omega (arith, spots (z .pre), z .good)
-
-mul-covariance-3 : tie.Need-mul-covariance-3
-mul-covariance-3 c = let z = c .before .before .before in omega (arith, spots (z .pre), z .good)
-
-add-covariance : tie.Need-add-covariance
-add-covariance c = let z = c .before .before .before in omega (arith, spots (z .pre), z .good)
-
-mul-covariance-4 : tie.Need-mul-covariance-4
-mul-covariance-4 c = let z = c .before .before .before in omega (arith, spots (z .pre), z .good)
-
-shared-slice-read-covariance-2 : tie.Need-shared-slice-read-covariance-2
-shared-slice-read-covariance-2 c = let z = c .before .before .before .before in omega (arith, spots (z .pre), z .good)
-
-covariance-requires : tie.Need-covariance-requires
-covariance-requires c κs = sums-counted (c .before .before .before .before .pre) _ (c .before .before .window-sum .ensures)
-
-add-quotient : tie.Need-add-quotient
-add-quotient c = let z = c .before .before .before .before .before in omega (arith, spots (z .pre), z .good)
-
-mul-quotient : tie.Need-mul-quotient
-mul-quotient c = let z = c .before .before .before .before .before in omega (arith, spots (z .pre), z .good)
-
-shared-slice-read-quotient : tie.Need-shared-slice-read-quotient
-shared-slice-read-quotient c = let z = c .before .before .before .before .before .before in omega (arith, spots (z .pre), z .good)
-
-mul-quotient-2 : tie.Need-mul-quotient-2
-mul-quotient-2 c = let z = c .before .before .before .before .before .before in omega (arith, spots (z .pre), z .good)
-
-add-quotient-2 : tie.Need-add-quotient-2
-add-quotient-2 c = let z = c .before .before .before .before .before .before in omega (arith, spots (z .pre), z .good)
-
-mul-quotient-3 : tie.Need-mul-quotient-3
-mul-quotient-3 c = let z = c .before .before .before .before .before .before in omega (arith, spots (z .pre), z .good)
-
-shared-slice-read-quotient-2 : tie.Need-shared-slice-read-quotient-2
-shared-slice-read-quotient-2 c = let z = c .before .before .before .before .before .before .before in omega (arith, spots (z .pre), z .good)
-
-quotient-requires : tie.Need-quotient-requires
-quotient-requires c κs = rw (c .before .before .covariance .ensures) (divisible (c .before .before .before .before .before .before .before .pre) _ (c .before .before .before .before .before .window-sum .ensures))
+summed-cost-requires : tie.Need-summed-cost-requires
+summed-cost-requires c κs = summed (c .before .before .pre) _ (c .window-sum .ensures)
 
 returns : tie.Need-returns
-returns c = λ s a b o.
-    c .quotient .ensures
-    ∙ rw (c .before .before .before .covariance .ensures)
-    (cell-is (c .before .before .before .before .before .before .before .before .pre) o _ (cov-is (c .before .before .before .before .before .before .before .before .pre) _ (c .before .before .before .before .before .before .window-sum .ensures) o))
+returns c = λ s a b o. c .summed-cost .ensures s a b (tables-of o) (sum-both (c .before .before .before .pre) _ (c .before .window-sum .ensures) o)
 
 pub pair-cost-spec : {M : Type 1} → statement M
 pair-cost-spec =
     tie.close
     (tie.spec
     add-side
-    add-cells
-    mul-cells
-    sub-top
-    mul-top
-    sub-here
-    add-here
-    sub-there
-    add-there
-    mul-n
-    add-n
-    mul-window-sum
+    sub-corner
+    mul-corner
+    sub-corner-2
+    add-corner
     add-window-sum
+    mul-window-sum
+    mul-window-sum-2
+    add-window-sum-2
+    mul-window-sum-3
+    add-window-sum-3
     window-sum-requires
-    mul-covariance
-    mul-covariance-2
-    shared-slice-read-covariance
-    mul-covariance-3
-    add-covariance
-    mul-covariance-4
-    shared-slice-read-covariance-2
-    covariance-requires
-    add-quotient
-    mul-quotient
-    shared-slice-read-quotient
-    mul-quotient-2
-    add-quotient-2
-    mul-quotient-3
-    shared-slice-read-quotient-2
-    quotient-requires
+    summed-cost-requires
     returns)

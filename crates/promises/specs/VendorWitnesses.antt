@@ -1,0 +1,117 @@
+-- A pair and a vendor's map for each number and each verdict that can be answered of a check. Definitions only.
+use Prim.Native.Nat.{ℕ}
+use mathlib.Core.Path.{_≡_}
+use mathlib.Core.Bool.{true, false}
+use mathlib.Core.List.{List, [], _∷_, _++_}
+use lib.IntN.{ℤ, pos, negsuc}
+use lib.ListN.{replicate}
+use lib.Ieee.{Float, nan, inf, fin}
+use Rattle.options.specs.declared.BlockMatchOptions.{BlockMatchOptions}
+use Rattle.options.specs.Options.{defaultOptions}
+use Rattle.refusals.specs.declared.Call.{Call}
+use Rattle.vendor.specs.declared.Verdict.{Verdict}
+use Rattle.vendor.specs.declared.Verdict.the-variants.{Yes, No}
+use Rattle.vendor.specs.Verdict.{checkOf, verdictOf}
+use Rattle.vendor.specs.Outcome.{vendorCall, vendorRefusal}
+
+-- the first disparity, the count, the block's side and the least correlation; the rest as where none are given
+abbrev pub searching : ℤ → ℤ → ℕ → Float → BlockMatchOptions
+searching first count block least = record {
+  «min_disparity» = first;
+  «num_disparities» = count;
+  «block_size» = block;
+  «min_correlation» = least;
+  «uniqueness_ratio» = defaultOptions .«uniqueness_ratio»;
+  «lr_consistency» = defaultOptions .«lr_consistency»;
+  «lr_max_diff» = defaultOptions .«lr_max_diff»;
+  subpixel = defaultOptions .subpixel;
+  «semi_global» = defaultOptions .«semi_global»;
+  «sgm_p1» = defaultOptions .«sgm_p1»;
+  «sgm_p2» = defaultOptions .«sgm_p2»;
+}
+
+abbrev pub zero : Float
+zero = fin false 0 (pos 0)
+
+abbrev pub minusZero : Float
+minusZero = fin true 0 (pos 0)
+
+abbrev pub half : Float
+half = fin false 1 (negsuc 0)
+
+abbrev pub one : Float
+one = fin false 1 (pos 0)
+
+abbrev pub minusOne : Float
+minusOne = fin true 1 (pos 0)
+
+abbrev pub two : Float
+two = fin false 1 (pos 1)
+
+-- a left picture of nine bytes, so wide and so high, beside a right one of 3 by 3, and a room
+abbrev pub asked : ℕ → ℕ → List ℕ → ℤ → ℤ → ℕ → ℕ → Call
+asked w h right first count block room = vendorCall (replicate 9 0) w h right 3 3 (searching first count block half) room
+
+-- three rows alike
+abbrev pub thrice : {A : Type 0} → List A → List A
+thrice row = row ++ row ++ row
+
+-- 5 by 3, and the same moved left by a column: the windows centred in columns 2 and 3 show the same with disparity 1
+abbrev pub left : List ℕ
+left = thrice (10 ∷ 20 ∷ 40 ∷ 30 ∷ 50 ∷ [])
+
+abbrev pub right : List ℕ
+right = thrice (20 ∷ 40 ∷ 30 ∷ 50 ∷ 10 ∷ [])
+
+-- the middle row of a map of 5 by 3, whose other rows are blank
+abbrev pub middle : List Float → List Float
+middle row = replicate 5 nan ++ row ++ replicate 5 nan
+
+-- the verdict on such a map, with disparities 0 and 1, block 3 and a least correlation
+abbrev pub judged : Float → List Float → Verdict
+judged least map = verdictOf (checkOf 5 3 (searching (pos 0) (pos 2) 3 least)) left right map
+
+-- 5 by 3, every other column alike: in column 3 disparities 0 and 2 show the same
+abbrev pub striped : List ℕ
+striped = thrice (10 ∷ 20 ∷ 10 ∷ 20 ∷ 10 ∷ [])
+
+abbrev pub tied : List Float → Verdict
+tied map = verdictOf (checkOf 5 3 (searching (pos 0) (pos 3) 3 half)) striped striped map
+
+pub record VendorsReached : Type 0 where
+  -- each refusal, where those after it apply too
+  pub of-1 : vendorRefusal (asked 0 3 [] (pos 5000) (pos 0) 0 79) 2 2 8 ≡ 1
+  pub of-2 : vendorRefusal (asked 3 3 [] (pos 5000) (pos 0) 0 79) 2 2 8 ≡ 2
+  pub of-3 : vendorRefusal (asked 9 1 (replicate 9 0) (pos 5000) (pos 0) 0 79) 2 2 8 ≡ 3
+  pub of-4 : vendorRefusal (asked 3 3 (replicate 9 0) (pos 5000) (pos 0) 32 79) 2 2 8 ≡ 4
+  pub of-5 : vendorRefusal (asked 3 3 (replicate 9 0) (pos 5000) (pos 0) 33 79) 2 2 8 ≡ 5
+  pub of-6 : vendorRefusal (asked 3 3 (replicate 9 0) (pos 5000) (pos 0) 5 79) 2 2 8 ≡ 6
+  pub of-7 : vendorRefusal (asked 3 3 (replicate 9 0) (pos 5000) (pos 257) 5 79) 2 2 8 ≡ 7
+  pub of-8 : vendorRefusal (asked 3 3 (replicate 9 0) (pos 5000) (pos 2) 5 79) 2 2 8 ≡ 8
+  pub of-9 : vendorRefusal (asked 3 3 (replicate 9 0) (pos 5000) (pos 2) 3 79) 2 2 8 ≡ 9
+  -- a map of another width, of another height, and of another length; then a room that is one cell too short
+  pub of-23 : vendorRefusal (asked 3 3 (replicate 9 0) (pos 0) (pos 2) 3 79) 2 3 9 ≡ 23
+  pub of-23-high : vendorRefusal (asked 3 3 (replicate 9 0) (pos 0) (pos 2) 3 79) 3 2 9 ≡ 23
+  pub of-23-long : vendorRefusal (asked 3 3 (replicate 9 0) (pos 0) (pos 2) 3 79) 3 3 8 ≡ 23
+  pub of-12 : vendorRefusal (asked 3 3 (replicate 9 0) (pos 0) (pos 2) 3 79) 3 3 9 ≡ 12
+  pub accepted : vendorRefusal (asked 3 3 (replicate 9 0) (pos 0) (pos 2) 3 80) 3 3 9 ≡ 0
+  -- what is right, a blank map, and a cell that is infinite, which is not valid
+  pub right-one : judged half (middle (nan ∷ nan ∷ one ∷ one ∷ nan ∷ [])) ≡ Yes
+  pub blank-one : judged half (middle (replicate 5 nan)) ≡ Yes
+  pub infinite : judged half (middle (inf false ∷ nan ∷ one ∷ nan ∷ nan ∷ [])) ≡ Yes
+  -- beaten by the other index; blank, because the target's window leaves the picture; below the least correlation, and with a lower one not
+  pub beaten : judged minusOne (middle (nan ∷ nan ∷ zero ∷ one ∷ nan ∷ [])) ≡ No 2 1
+  pub no-cost : judged minusOne (middle (nan ∷ one ∷ one ∷ one ∷ nan ∷ [])) ≡ No 1 1
+  pub below : judged half (middle (nan ∷ zero ∷ zero ∷ one ∷ nan ∷ [])) ≡ No 1 1
+  pub enough : judged minusOne (middle (nan ∷ zero ∷ one ∷ one ∷ nan ∷ [])) ≡ Yes
+  pub minus-zero : judged minusOne (middle (nan ∷ minusZero ∷ one ∷ one ∷ nan ∷ [])) ≡ Yes
+  -- no disparity of the searched range, and no whole one; a pixel whose own window leaves the picture
+  pub beyond : judged half (middle (nan ∷ nan ∷ one ∷ two ∷ nan ∷ [])) ≡ No 3 1
+  pub between : judged half (middle (nan ∷ nan ∷ one ∷ half ∷ nan ∷ [])) ≡ No 3 1
+  pub at-the-edge : judged half (middle (nan ∷ nan ∷ one ∷ one ∷ one ∷ [])) ≡ No 4 1
+  -- no number is below a least correlation that is not one
+  pub no-least : judged nan (middle (nan ∷ zero ∷ one ∷ one ∷ nan ∷ [])) ≡ Yes
+  -- a tie passes either way; the odd disparity does not
+  pub tie-small : tied (middle (nan ∷ nan ∷ nan ∷ zero ∷ nan ∷ [])) ≡ Yes
+  pub tie-large : tied (middle (nan ∷ nan ∷ nan ∷ two ∷ nan ∷ [])) ≡ Yes
+  pub not-tied : tied (middle (nan ∷ nan ∷ nan ∷ one ∷ nan ∷ [])) ≡ No 3 1

@@ -1,0 +1,35 @@
+-- `vendor::cost::tabled_cost` meets its contract: blank where there is no target column, else the cost of the two windows. Assumes nothing.
+use mathlib.Core.Path.{ap, _∙_}
+use borrow.Author.Needs.{needs}
+use Rattle.options.specs.Costs.{stored}
+use Rattle.vendor.proofs.Targets.{Aimed, aimed, missed, aimed-cost, aimed-pair}
+use Rattle.vendor.proofs.cost.tabled_cost.Statement.{statement}
+use Rattle.vendor.proofs.cost.tabled_cost.Tie as tie
+
+abbrev entry : tie.After-target → tie.Start
+entry c = c .before .before
+
+-- both windows lie within the pictures
+aim : (c : tie.Else1) → let z = entry (c .before .before) .args in Aimed (z .q) (z .x) (z .y) (z .k) (c .before .before .target .result)
+aim c = aimed _ _ _ _ _ (c .before .before .target .ensures) (c .if1 .left)
+
+target-requires : tie.Need-target-requires
+target-requires c κs = search needs
+
+stored-requires : tie.Need-stored-requires
+stored-requires c κs = search needs
+
+returns : tie.Need-returns
+returns c = λ left right o.
+    let t = c .before .before .before in
+    c .stored .ensures ∙ ap stored (missed _ _ _ _ _ (t .target .ensures) (c .before .if1 .taken) left right)
+
+pair-cost-requires : tie.Need-pair-cost-requires
+pair-cost-requires c κs = aimed-pair (aim c) (entry (c .before .before) .pre .1)
+
+returns-2 : tie.Need-returns-2
+returns-2 c = λ left right o. c .pair-cost .ensures _ left right o ∙ ap stored (aimed-cost (aim (c .before)) left right)
+
+pub tabled-cost-spec : {M : Type 1} → statement M
+tabled-cost-spec =
+    tie.close (tie.spec target-requires stored-requires returns pair-cost-requires returns-2)

@@ -1,0 +1,126 @@
+// One raw cost at a time: from the products' table of its index, or, where that is not there, from the products themselves.
+ghost use mathlib.Core.Path.{_≡_};
+ghost use mathlib.Core.List.{List};
+ghost use Prim.Native.Nat.{ℕ, _+_, _^_, _≤_, _<_};
+ghost use lib.IntN.{ℤ, pos, _+ℤ_};
+ghost use lib.ListN.{length};
+ghost use Rattle.lists.specs.Sums.{sumTo};
+ghost use Rattle.options.specs.Limits.{sideMost};
+ghost use Rattle.options.specs.Costs.{stored};
+ghost use Rattle.windows.specs.Table.{crossAt};
+ghost use Rattle.windows.specs.Window.{windowSum};
+ghost use Rattle.windows.specs.Parts.{productIn};
+ghost use Rattle.costs.specs.Raw.{within};
+ghost use Rattle.costs.specs.Rooms.{RoomOf, Ready};
+ghost use Rattle.vendor.specs.Verdict.{costAt};
+ghost use Rattle.vendor.specs.Tests.{shiftAt, targetOf};
+ghost use Rattle.vendor.specs.Ready.{Sized, TwoWindows, Tabled};
+use crate::Check;
+use costs::raw::pair_cost;
+use costs::raw::summed_cost;
+use costs::volume::shift_at;
+use options::BlockMatchOptions;
+use options::Side;
+use windows::product;
+
+// The products of two rows' levels, added.
+fn row_products(a: &[u8], b: &[u8]) -> u64
+    requires { ⌜ (length (now b) ≡ length (now a)) × (length (now a) ≤ sideMost) ⌝ }
+    ensures { λ v. ⌜ v ≡ sumTo (length (now (a .entry))) (productIn (now (a .entry)) (now (b .entry))) ⌝ }
+{
+    let mut sum: u64 = 0;
+    for i in 0..a.len() {
+        sum += product(a[i], b[i]);
+    }
+    sum
+}
+
+// The products of the levels of the window at (x, y) of a by those of the window at (other, y) of b, added.
+fn window_products(
+    a: &[u8],
+    b: &[u8],
+    w: usize,
+    h: usize,
+    r: usize,
+    x: usize,
+    other: usize,
+    y: usize,
+) -> u64
+    requires { ⌜ TwoWindows (now a) (now b) w h r x other y ⌝ }
+    ensures { λ v. ⌜ ((s : ℤ) → pos x +ℤ s ≡ pos other → v ≡ windowSum (crossAt w (now (a .entry)) (now (b .entry)) s) x y r) ⌝ }
+{
+    let n = 2 * r + 1;
+    let mut sum: u64 = 0;
+    for j in 0..n {
+        let row = (y - r + j) * w;
+        let here = row + (x - r);
+        let there = row + (other - r);
+        sum += row_products(&a[here..here + n], &b[there..there + n]);
+    }
+    sum
+}
+
+// Whether a window centred in column x lies within a row of w pixels.
+fn is_within(w: usize, r: usize, x: usize) -> bool
+    requires { ⌜ (x + r < 2 ^ 64) ⌝ }
+    ensures { λ t. ⌜ t ≡ within w r x ⌝ }
+{
+    if x < r { false } else { x + r < w }
+}
+
+// The target column of (x, y) with index k, and the width where a window leaves the picture.
+fn target(q: Check, x: usize, y: usize, k: usize) -> usize
+    requires { ⌜ Sized q × (x < q .w) × (y < q .h) × (k < q .search .count) ⌝ }
+    ensures { λ t. ⌜ t ≡ targetOf q x y k ⌝ }
+{
+    if !is_within(q.w, q.r, x) {
+        return q.w;
+    }
+    if !is_within(q.h, q.r, y) {
+        return q.w;
+    }
+    let search = q.search;
+    let column = x as i64 + shift_at(Side::Left, search.first as i64, k);
+    if column < 0 {
+        return q.w;
+    }
+    let other = column as usize;
+    if is_within(q.w, q.r, other) {
+        other
+    } else {
+        q.w
+    }
+}
+
+// The cell of the raw cost at (x, y) with index k, from the products themselves.
+pub fn direct_cost(
+    left: &[u8],
+    right: &[u8],
+    room: &[u64],
+    q: Check,
+    x: usize,
+    y: usize,
+    k: usize,
+) -> f32
+    requires { ⌜ Tabled (now room) q (now left) (now right) × (x < q .w) × (y < q .h) × (k < q .search .count) ⌝ }
+    ensures { λ v. ⌜ v ≡ stored (costAt q (now (left .entry)) (now (right .entry)) x y k) ⌝ }
+{
+    let other = target(q, x, y, k);
+    if other == q.w {
+        return BlockMatchOptions::BLANK.stored();
+    }
+    let products = window_products(left, right, q.w, q.h, q.r, x, other, y);
+    summed_cost(room, q.w, q.h, q.r, x, other, y, products)
+}
+
+// The same from the products' table of index k, which stands in the room.
+pub fn tabled_cost(room: &[u64], q: Check, x: usize, y: usize, k: usize) -> f32
+    requires { ⌜ Sized q × Ready (now room) (q .w) (q .h) (q .r) (shiftAt q k) × (x < q .w) × (y < q .h) × (k < q .search .count) ⌝ }
+    ensures { λ v. ⌜ ((left right : List ℕ) → RoomOf (now (room .entry)) (q .w) (q .h) (q .r) (shiftAt q k) left right → v ≡ stored (costAt q left right x y k)) ⌝ }
+{
+    let other = target(q, x, y, k);
+    if other == q.w {
+        return BlockMatchOptions::BLANK.stored();
+    }
+    pair_cost(room, q.w, q.h, q.r, x, other, y)
+}
