@@ -5,7 +5,7 @@ use options::BlockMatchOptions;
 use refusals::Call;
 use refusals::Output;
 
-mod block;
+pub mod block;
 mod direction;
 mod solve;
 

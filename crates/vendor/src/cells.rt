@@ -134,7 +134,7 @@ fn cell_holds(
     }
 }
 
-// The first of the map's pixels up to a limit that a question holds no longer for, and the limit where it holds for all.
+// The first of the map's pixels before a limit for which a question does not hold, and the limit where it holds for all.
 pub fn first_failing(
     left: &[u8],
     right: &[u8],

@@ -8,6 +8,7 @@ ghost use lib.Dec.{eqb};
 ghost use lib.ListN.{length, drop};
 ghost use Rattle.lists.specs.Lists.{cleared};
 ghost use Rattle.windows.specs.Window.{cells};
+ghost use Rattle.matching.specs.Fit.{Counted};
 ghost use Rattle.vendor.specs.declared.Verdict.the-variants.{Yes, No};
 ghost use Rattle.vendor.specs.Verdict.{checkOf, firstBad};
 ghost use Rattle.vendor.specs.Outcome.{vendorCall, vendorRefusal, CheckDone};
@@ -15,13 +16,14 @@ ghost use Rattle.vendor.specs.Ready.{Tabled, Lent};
 use cells::Question;
 use cells::first_failing;
 use choices::subpixel::Search;
+use costs::raw_call;
 use costs::tables::fill_picture;
 use costs::volume::shift_at;
 use lists::clear_u64;
+use matching::block::search_of;
 use options::BlockMatchOptions;
 use options::Side;
 use refusals::Call;
-use refusals::Output;
 use refusals::pair_refusal;
 use windows::fill_cross;
 
@@ -115,6 +117,20 @@ fn vendor_refusal(call: Call, map_w: usize, map_h: usize, map_cells: usize) -> u
     0
 }
 
+// What the maps of w by h pictures are checked by.
+fn check_of(w: usize, h: usize, opts: BlockMatchOptions) -> Check
+    requires { ⌜ Counted opts ⌝ }
+    ensures { λ q. ⌜ q ≡ checkOf w h opts ⌝ }
+{
+    Check {
+        w,
+        h,
+        r: opts.block_size / 2,
+        search: search_of(opts),
+        least: opts.min_correlation,
+    }
+}
+
 // Whether a vendor's map of two pictures holds what their raw costs say. A refusal, by its number, leaves the room as it was; else the
 // cells that were needed are zero.
 pub fn check_vendor(
@@ -132,42 +148,21 @@ pub fn check_vendor(
 ) -> Verdict
     ensures { λ v. ⌜ CheckDone v (vendorCall (now (left .entry)) «left_w» «left_h» (now (right .entry)) «right_w» «right_h» opts (length (now (room .entry)))) opts (now (left .entry)) (now (right .entry)) «map_w» «map_h» (now (map .entry)) (now (room .entry)) (now (room .exit)) ⌝ }
 {
-    let refused = vendor_refusal(
-        Call {
-            output: Output::Volume,
-            left_w,
-            left_h,
-            left_bytes: left.len(),
-            right_w,
-            right_h,
-            right_bytes: right.len(),
-            first: opts.min_disparity,
-            count: opts.num_disparities,
-            block: opts.block_size,
-            semi_global: false,
-            p1: 0.0,
-            p2: 0.0,
-            out_len: 0,
-            whole_len: room.len(),
-            float_len: 0,
-        },
-        map_w,
-        map_h,
-        map.len(),
+    let call = raw_call(
+        left,
+        left_w,
+        left_h,
+        right,
+        right_w,
+        right_h,
+        opts,
+        0,
+        room.len(),
     );
+    let refused = vendor_refusal(call, map_w, map_h, map.len());
     if refused != 0 {
         return Verdict::Refused(refused);
     }
-    let q = Check {
-        w: left_w,
-        h: left_h,
-        r: opts.block_size / 2,
-        search: Search {
-            first: opts.min_disparity,
-            count: opts.num_disparities as usize,
-            subpixel: opts.subpixel,
-        },
-        least: opts.min_correlation,
-    };
+    let q = check_of(left_w, left_h, opts);
     judge(check_cells(left, right, room, q, map), left_w, left_h)
 }

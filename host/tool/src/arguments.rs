@@ -5,17 +5,23 @@ use std::str::FromStr;
 pub const USAGE: &str = "\
 usage: tool match LEFT.pgm RIGHT.pgm MAP.pfm PREVIEW.png [OPTION..]
        tool volume LEFT.pgm RIGHT.pgm CAMERA SITE [OPTION..]
+       tool check LEFT.pgm RIGHT.pgm MAP.pfm [OPTION..]
 
 match reads the two pictures, writes their disparity map and a preview of it, and prints the map's size and cover;
 volume reads the two pictures and prints the volume of the heap over a rectangle of ground, how many points of the map lie in the
-rectangle and outside, and how many cells the ground has and how many of them no point fell into
+rectangle and outside, and how many cells the ground has and how many of them no point fell into;
+check reads the two pictures and a vendor's whole-pixel map of them, in which a cell that is not finite is blank, and prints yes, or no
+and the first bad cell by rows from the top, its column and its row counted from 0
 
-OPTION, how the pictures are matched:
-  --semi-global           a figure at nearly every pixel, where a block map has holes
+the exit status is 1 where something was refused or a file could not be read or written, 2 where the words make no sense, 3 where a
+check's answer is no, else 0
+
+OPTION, how the pictures are matched; check takes the first four and no other:
   --min-disparity N       the first disparity (0)
   --num-disparities N     how many disparities are tried (64)
   --block-size N          the side of the block, odd (7)
   --min-correlation X     the least correlation of a match (0.5)
+  --semi-global           a figure at nearly every pixel, where a block map has holes
   --uniqueness-ratio X    by how much the next match must be worse (0.03)
   --no-lr                 leave out the left-right test
   --lr-max-diff X         the most that the left-right test lets the two sides differ (1)
@@ -51,9 +57,18 @@ pub struct Volume {
     pub site: Site,
 }
 
+/// A check that was asked for: the files to read, the vendor's map among them, and the options.
+pub struct Check {
+    pub left: String,
+    pub right: String,
+    pub map: String,
+    pub options: Options,
+}
+
 pub enum Asked {
     Match(Match),
     Volume(Volume),
+    Check(Check),
 }
 
 /// The value behind an option's name.
@@ -62,21 +77,29 @@ fn value<T: FromStr>(name: &str, words: &mut impl Iterator<Item = String>) -> Re
     word.parse().map_err(|_| format!("{name} does not take the value {word}"))
 }
 
-/// One option into `options`.
+/// One option into `options`, of those that a check reads. Any other is refused: a check that passed over it would seem to heed it.
+fn check_option(name: &str, words: &mut impl Iterator<Item = String>, options: &mut Options) -> Result<(), String> {
+    match name {
+        "--min-disparity" => options.min_disparity = value(name, words)?,
+        "--num-disparities" => options.num_disparities = value(name, words)?,
+        "--block-size" => options.block_size = value(name, words)?,
+        "--min-correlation" => options.min_correlation = value(name, words)?,
+        _ => return Err(format!("{name} is not an option here")),
+    }
+    Ok(())
+}
+
+/// One option of a match into `options`.
 fn option(name: &str, words: &mut impl Iterator<Item = String>, options: &mut Options) -> Result<(), String> {
     match name {
         "--semi-global" => options.semi_global = true,
         "--no-lr" => options.lr_consistency = false,
         "--no-subpixel" => options.subpixel = false,
-        "--min-disparity" => options.min_disparity = value(name, words)?,
-        "--num-disparities" => options.num_disparities = value(name, words)?,
-        "--block-size" => options.block_size = value(name, words)?,
-        "--min-correlation" => options.min_correlation = value(name, words)?,
         "--uniqueness-ratio" => options.uniqueness_ratio = value(name, words)?,
         "--lr-max-diff" => options.lr_max_diff = value(name, words)?,
         "--sgm-p1" => options.sgm_p1 = value(name, words)?,
         "--sgm-p2" => options.sgm_p2 = value(name, words)?,
-        _ => return Err(format!("{name} is not an option")),
+        _ => check_option(name, words, options)?,
     }
     Ok(())
 }
@@ -144,12 +167,19 @@ fn parse_volume(words: impl Iterator<Item = String>) -> Result<Volume, String> {
     Ok(Volume { left, right, options, camera: Intrinsics { fx, fy, cx, cy, baseline }, site })
 }
 
+fn parse_check(words: impl Iterator<Item = String>) -> Result<Check, String> {
+    let mut options = Options::default();
+    let [left, right, map] = files(words, "three", |name, words| check_option(name, words, &mut options))?;
+    Ok(Check { left, right, map, options })
+}
+
 /// What the words behind the tool's name ask for; an error is what is wrong with them.
 pub fn parse(words: impl IntoIterator<Item = String>) -> Result<Asked, String> {
     let mut words = words.into_iter();
     match words.next().as_deref() {
         Some("match") => parse_match(words).map(Asked::Match),
         Some("volume") => parse_volume(words).map(Asked::Volume),
+        Some("check") => parse_check(words).map(Asked::Check),
         Some(other) => Err(format!("{other} is not a thing that the tool does")),
         None => Err(String::from("nothing was asked for")),
     }
@@ -215,11 +245,30 @@ mod tests {
     }
 
     #[test]
+    fn a_check_has_the_options_that_it_reads() {
+        let line = "check --min-disparity -3 l.pgm --num-disparities 24 r.pgm m.pfm --block-size 5 --min-correlation 0.25";
+        let Ok(Asked::Check(asked)) = parsed(line) else { panic!("good words") };
+        assert_eq!([asked.left, asked.right, asked.map], ["l.pgm", "r.pgm", "m.pfm"]);
+        let options = Options { min_disparity: -3, num_disparities: 24, block_size: 5, min_correlation: 0.25, ..Options::default() };
+        assert_eq!(format!("{:?}", asked.options), format!("{options:?}"));
+        let others = [
+            "--semi-global", "--no-lr", "--no-subpixel", "--uniqueness-ratio 0", "--lr-max-diff 2", "--sgm-p1 0.5", "--sgm-p2 3",
+        ];
+        for other in others {
+            assert!(parsed(&format!("match l.pgm r.pgm m.pfm p.png {other}")).is_ok(), "{other}");
+            let name = other.split(' ').next().expect("a name");
+            let why = parsed(&format!("{line} {other}")).err().expect("no check reads it");
+            assert_eq!(why, format!("{name} is not an option here"));
+        }
+    }
+
+    #[test]
     fn words_that_ask_for_nothing() {
         let unfit = [
             "", "draw", "match", "match a b c", "match a b c d e", "match a b c d --deep", "match a b c d --block-size",
             "match a b c d --block-size -1", "match a b c d --num-disparities many", "match a b c d --min-disparity 2147483648",
-            "match a b c d --floor 6000", "volume", "volume a b", "volume a b --semi-global",
+            "match a b c d --floor 6000", "volume", "volume a b", "volume a b --semi-global", "check", "check a b", "check a b c d",
+            "check a b c --floor 6000", "check a b c --block-size",
         ];
         for line in unfit {
             assert!(parsed(line).is_err(), "{line}");

@@ -1,11 +1,15 @@
-//! The host's program: two PGM pictures in, a PFM map and a PNG preview out, or the volume of the heap that they show. The library
-//! reads, matches, measures and writes; this names the files. The exit status is 1 where something was refused or a file could not be
-//! read or written, 2 where the words make no sense.
+//! The host's program: two PGM pictures in, a PFM map and a PNG preview out, or the volume of the heap that they show, or whether they
+//! bear out a vendor's PFM map. The library reads, matches, measures, checks and writes; this names the files. The exit status is 1
+//! where something was refused or a file could not be read or written, 2 where the words make no sense, 3 where a check's answer is no,
+//! else 0.
 mod arguments;
 
-use arguments::{Asked, Match, USAGE, Volume};
+use arguments::{Asked, Check, Match, USAGE, Volume};
 use heap::{colours, png};
-use plombrisa::{Map, Options, OwnedMap, OwnedPicture, Refusal, cover, heap_volume, match_block, points, read_pgm, write_pfm};
+use plombrisa::{
+    Map, Options, OwnedMap, OwnedPicture, Refusal, Verdict, check_vendor, cover, heap_volume, match_block, points, read_pfm, read_pgm,
+    write_pfm,
+};
 use std::fs;
 use std::io::{self, Write};
 use std::process::ExitCode;
@@ -14,9 +18,16 @@ fn refused(what: &str, refusal: Refusal) -> String {
     format!("{what}: refused, {}: {refusal}", refusal.number())
 }
 
+fn read_file(file: &str) -> Result<Vec<u8>, String> {
+    fs::read(file).map_err(|error| format!("{file}: cannot be read: {error}"))
+}
+
 fn picture_of(file: &str) -> Result<OwnedPicture, String> {
-    let bytes = fs::read(file).map_err(|error| format!("{file}: cannot be read: {error}"))?;
-    read_pgm(&bytes).map_err(|refusal| refused(file, refusal))
+    read_pgm(&read_file(file)?).map_err(|refusal| refused(file, refusal))
+}
+
+fn vendor_map_of(file: &str) -> Result<OwnedMap, String> {
+    read_pfm(&read_file(file)?).map_err(|refusal| refused(file, refusal))
 }
 
 fn write_file(file: &str, bytes: &[u8]) -> Result<(), String> {
@@ -69,10 +80,29 @@ fn measure(asked: &Volume) -> Result<String, String> {
     ))
 }
 
-fn run(asked: &Asked) -> Result<String, String> {
+/// The verdict on the vendor's map.
+fn check(asked: &Check) -> Result<Verdict, String> {
+    let Check { left, right, map, options } = asked;
+    let all = format!("{left}, {right} and {map}");
+    let (left, right, map) = (picture_of(left)?, picture_of(right)?, vendor_map_of(map)?);
+    check_vendor(left.picture(), right.picture(), options, map.map()).map_err(|refusal| refused(&all, refusal))
+}
+
+/// A verdict as it is printed, and its exit status: a no has one of its own, for a no is neither a yes nor a refusal.
+fn told(verdict: Verdict) -> (String, ExitCode) {
+    match verdict {
+        Verdict::Yes => (String::from("yes"), ExitCode::SUCCESS),
+        Verdict::No { x, y } => (format!("no: the cell in column {x} of row {y}"), ExitCode::from(3)),
+    }
+}
+
+/// Does what was asked, and answers what is to be printed and the exit status.
+fn run(asked: &Asked) -> Result<(String, ExitCode), String> {
+    let done = |text| (text, ExitCode::SUCCESS);
     match asked {
-        Asked::Match(asked) => draw(asked),
-        Asked::Volume(asked) => measure(asked),
+        Asked::Match(asked) => draw(asked).map(done),
+        Asked::Volume(asked) => measure(asked).map(done),
+        Asked::Check(asked) => check(asked).map(told),
     }
 }
 
@@ -91,10 +121,12 @@ fn main() -> ExitCode {
             return ExitCode::from(2);
         }
     };
-    let printed = run(&asked)
-        .and_then(|text| writeln!(io::stdout(), "{text}").map_err(|error| format!("the figures cannot be printed: {error}")));
+    let printed = run(&asked).and_then(|(text, status)| {
+        writeln!(io::stdout(), "{text}").map_err(|error| format!("the answer cannot be printed: {error}"))?;
+        Ok(status)
+    });
     match printed {
-        Ok(()) => ExitCode::SUCCESS,
+        Ok(status) => status,
         Err(why) => {
             let _ = writeln!(io::stderr(), "tool: {why}");
             ExitCode::FAILURE

@@ -1,6 +1,7 @@
-//! The tool as a user starts it: on the example in both modes, and on files, sites and words that it must turn away.
+//! The tool as a user starts it: on the example in both modes, on maps of the example to be checked, and on files, sites and words that
+//! it must turn away.
 use heap::scene::Scene;
-use plombrisa::{Intrinsics, Map, Options, Picture, cover, match_block, points, read_pfm};
+use plombrisa::{Intrinsics, Map, Options, Picture, Verdict, check_vendor, cover, match_block, points, read_pfm};
 use runs::program::program_at;
 use std::fs;
 use std::path::{Path, PathBuf};
@@ -102,6 +103,27 @@ fn readme() -> String {
     fs::read_to_string(concat!(env!("CARGO_MANIFEST_DIR"), "/../../README.md")).expect("README.md")
 }
 
+/// The line of the README with a command of the tool, and the text behind that line.
+fn command_line<'a>(readme: &'a str, command: &str) -> (&'a str, &'a str) {
+    let named = format!("-p tool -- {command} ");
+    let line = readme.split_inclusive('\n').find(|line| line.contains(&named)).expect("the command");
+    let (_, behind) = readme.split_once(line).expect("a line of it");
+    (line, behind)
+}
+
+/// The words behind the tool's name in a command of the README, its files in the places where they are here.
+fn words_of(command: &str) -> Vec<&str> {
+    let place = |word| match word {
+        "tool/example/left.pgm" => LEFT,
+        "tool/example/right.pgm" => RIGHT,
+        "map.pfm" => concat!(env!("CARGO_TARGET_TMPDIR"), "/readme.pfm"),
+        "preview.png" => concat!(env!("CARGO_TARGET_TMPDIR"), "/readme.png"),
+        other => other,
+    };
+    let (_, words) = command.split_once("-p tool -- ").expect("the tool's name");
+    words.split_whitespace().map(place).collect()
+}
+
 /// What the README says of the example: its command, and the cover of both modes.
 #[test]
 fn the_readme_says_what_is_printed() {
@@ -182,14 +204,8 @@ fn the_volume_of_the_example() {
 #[test]
 fn the_readme_says_what_is_measured() {
     let readme = readme();
-    let (_, behind) = readme.split_once("-p tool -- volume ").expect("the command");
-    let (command, shown) = behind.split_once('\n').expect("the command's line");
-    let place = |word| match word {
-        "tool/example/left.pgm" => LEFT,
-        "tool/example/right.pgm" => RIGHT,
-        other => other,
-    };
-    let words: Vec<&str> = ["volume"].into_iter().chain(command.split_whitespace().map(place)).collect();
+    let (command, shown) = command_line(&readme, "volume");
+    let words = words_of(command);
     let ended = tool(&words);
     assert_eq!((ended.status, ended.err.as_str()), (Some(0), ""));
     assert!(shown.starts_with(&format!("\nwhich prints\n\n```\n{}```\n", ended.out)), "{}", ended.out);
@@ -235,6 +251,143 @@ fn heaps_that_are_refused() {
         assert_eq!((ended.status, ended.out.as_str()), (Some(1), ""), "{right}");
         assert!(ended.err.contains(&said), "{right}: {}", ended.err);
     }
+}
+
+/// How many disparities the maps to be checked are searched for.
+const SEARCH: [&str; 2] = ["--num-disparities", "24"];
+
+/// The tool's own block map of the example, whole disparities only, in a file of this name.
+fn whole_map(name: &str) -> PathBuf {
+    let (ended, map, _) = matched(LEFT, RIGHT, name, &[&SEARCH[..], &["--no-subpixel"]].concat());
+    assert_eq!((ended.status, ended.err.as_str()), (Some(0), ""), "{name}");
+    map
+}
+
+/// A check of a map; of an option that is given twice the last counts.
+fn checked(left: &str, right: &str, map: &Path, options: &[&str]) -> Ended {
+    tool(&[&["check", left, right, map.to_str().expect("a name")], &SEARCH[..], options].concat())
+}
+
+/// The check of a map of the example answers this.
+fn answers(map: &Path, options: &[&str], verdict: Verdict) {
+    let ended = checked(LEFT, RIGHT, map, options);
+    let (status, out) = match verdict {
+        Verdict::Yes => (0, String::from("yes\n")),
+        Verdict::No { x, y } => (3, format!("no: the cell in column {x} of row {y}\n")),
+    };
+    assert_eq!((ended.status, ended.out, ended.err.as_str()), (Some(status), out, ""), "{map:?} {options:?}");
+}
+
+/// A map to be checked, in a file of this name.
+fn written(name: &str, bytes: &[u8]) -> PathBuf {
+    let map = own(name);
+    fs::write(&map, bytes).expect("the file can be written");
+    map
+}
+
+/// A PFM file of the example's size with another number in one cell; the bottom row is the first in the file.
+fn with_cell(file: &[u8], x: usize, y: usize, cell: f32) -> Vec<u8> {
+    let at = file.len() - 4 * ((y + 1) * 200 - x);
+    [&file[..at], &cell.to_le_bytes(), &file[at + 4..]].concat()
+}
+
+#[test]
+fn the_tool_s_own_map_passes_and_a_changed_cell_is_named() {
+    let map = whole_map("passes");
+    answers(&map, &[], Verdict::Yes);
+
+    let file = fs::read(&map).expect("the map");
+    let (x, y) = (120, 90);
+    let own_cell = read_pfm(&file).expect("a map").cells[y * 200 + x];
+    assert!(own_cell > 0.0 && own_cell < 23.0, "{own_cell}");
+    let answers = |file: &[u8], verdict| answers(&written("changed.pfm", file), &[], verdict);
+    for cell in [own_cell - 1.0, own_cell + 1.0, own_cell + 0.5, -1.0, 24.0, 1e30] {
+        answers(&with_cell(&file, x, y, cell), Verdict::No { x, y });
+    }
+    for blank in [f32::NAN, f32::INFINITY, f32::NEG_INFINITY] {
+        answers(&with_cell(&file, x, y, blank), Verdict::Yes);
+    }
+    // the window leaves the picture at its corners; of two cells the upper is named, though the other is further to the left
+    for (x, y) in [(0, 0), (199, 0), (0, 149), (199, 149)] {
+        answers(&with_cell(&file, x, y, 5.0), Verdict::No { x, y });
+    }
+    answers(&with_cell(&with_cell(&file, 20, 60, 24.0), 150, 40, 24.0), Verdict::No { x: 150, y: 40 });
+}
+
+/// With another search, block or least correlation the map does not pass, and the cell is the library's.
+#[test]
+fn a_check_heeds_its_options() {
+    let file = whole_map("heeded");
+    let map = read_pfm(&fs::read(&file).expect("the map")).expect("a map");
+    let Scene { width, height, left, right } = Scene::example();
+    let picture = |bytes| Picture { bytes, width, height };
+    let made = Options { num_disparities: 24, ..Options::default() };
+    let others = [
+        (["--min-disparity", "6"], Options { min_disparity: 6, ..made }),
+        (["--num-disparities", "18"], Options { num_disparities: 18, ..made }),
+        (["--block-size", "9"], Options { block_size: 9, ..made }),
+        (["--min-correlation", "0.9"], Options { min_correlation: 0.9, ..made }),
+    ];
+    for (words, options) in others {
+        let verdict = check_vendor(picture(&left), picture(&right), &options, map.map()).expect("the map is accepted");
+        assert_ne!(verdict, Verdict::Yes, "{words:?}");
+        answers(&file, &words, verdict);
+    }
+}
+
+/// What the README says of a check: the words of its two commands, run here in their order, print what it shows, and with sub-pixel on
+/// what it says of that.
+#[test]
+fn the_readme_says_what_is_checked() {
+    let readme = readme();
+    let (line, shown) = command_line(&readme, "check");
+    let (first, second) = line.split_once(" && ").expect("two commands");
+    let (making, checking) = (words_of(first), words_of(second));
+    let (made, checked) = (tool(&making), tool(&checking));
+    assert_eq!((made.status, checked.status), (Some(0), Some(0)), "{}{}", made.err, checked.err);
+    assert!(shown.starts_with(&format!("\nwhich prints\n\n```\n{}{}```\n", made.out, checked.out)), "{}{}", made.out, checked.out);
+
+    let with_subpixel: Vec<&str> = making.iter().copied().filter(|word| *word != "--no-subpixel").collect();
+    assert!(with_subpixel.len() + 1 == making.len() && tool(&with_subpixel).status == Some(0));
+    let checked = tool(&checking);
+    assert_eq!(checked.status, Some(3), "{}", checked.err);
+    assert!(shown.contains(&format!("`{}`", checked.out.trim_end())), "{}", checked.out);
+}
+
+#[test]
+fn checks_that_are_refused() {
+    let refused = |left: &str, right: &str, map: &Path, options: &[&str], said: &str| {
+        let ended = checked(left, right, map, options);
+        assert_eq!((ended.status, ended.out.as_str()), (Some(1), ""), "{map:?} {options:?}");
+        assert!(ended.err.starts_with(&format!("tool: {said}")), "{map:?} {options:?}: {}", ended.err);
+    };
+    let whole = whole_map("whole_for_refusals");
+    let all = |map: &Path| format!("{LEFT}, {RIGHT} and {}: refused, ", map.display());
+
+    let file = fs::read(&whole).expect("the map");
+    let turned = [b"Pf\n150 200\n-1.0\n", &file[file.len() - 4 * 200 * 150..]].concat();
+    for (name, bytes) in [("turned_map.pfm", &turned[..]), ("small_map.pfm", b"Pf\n1 1\n-1.0\n\0\0\x80\x7F")] {
+        let map = written(name, bytes);
+        refused(LEFT, RIGHT, &map, &[], &format!("{}23: ", all(&map)));
+    }
+    let malformed: [(&str, &[u8], &str); 4] = [
+        ("empty", b"", "41"),
+        ("colours", b"PF\n1 1\n-1.0\n\0\0\0\0\0\0\0\0\0\0\0\0", "41"),
+        ("no_width", b"Pf\n0 1\n-1.0\n", "43"),
+        ("cut", b"Pf\n2 1\n-1.0\n\0\0\0\0", "44"),
+    ];
+    for (name, bytes, number) in malformed {
+        let map = written(&format!("{name}_map.pfm"), bytes);
+        refused(LEFT, RIGHT, &map, &[], &format!("{}: refused, {number}: ", map.display()));
+    }
+    refused(LEFT, RIGHT, Path::new(RIGHT), &[], &format!("{RIGHT}: refused, 41: "));
+    refused(LEFT, RIGHT, Path::new("/nowhere/map.pfm"), &[], "/nowhere/map.pfm: cannot be read: ");
+
+    let map_name = whole.to_str().expect("a name");
+    refused(map_name, RIGHT, &whole, &[], &format!("{map_name}: refused, 41: "));
+    refused(LEFT, "/nowhere/right.pgm", &whole, &[], "/nowhere/right.pgm: cannot be read: ");
+    refused(LEFT, RIGHT, &whole, &["--block-size", "4"], &format!("{}4: ", all(&whole)));
+    refused(LEFT, RIGHT, &whole, &["--num-disparities", "257"], &format!("{}7: ", all(&whole)));
 }
 
 #[test]
@@ -299,7 +452,12 @@ fn words_that_make_no_sense_are_answered_with_the_usage() {
     let no_site = [&["volume", LEFT, RIGHT], &CAMERA[..]].concat();
     let no_floor = [&no_site, &SITE[..10]].concat();
     let no_whole_floor = [&no_floor[..], &["--floor", "6.5"]].concat();
-    for words in [&[][..], &["match"], &["draw"], &unknown, &no_value, &no_camera, &no_site, &no_floor, &no_whole_floor] {
+    let no_map = ["check", LEFT, RIGHT];
+    let unread = ["check", LEFT, RIGHT, "m", "--semi-global"];
+    let unfit = [
+        &[][..], &["match"], &["draw"], &unknown, &no_value, &no_camera, &no_site, &no_floor, &no_whole_floor, &no_map, &unread,
+    ];
+    for words in unfit {
         let ended = tool(words);
         assert_eq!(ended.status, Some(2), "{words:?}");
         assert!(ended.err.contains("usage: tool match LEFT.pgm RIGHT.pgm MAP.pfm PREVIEW.png"), "{words:?}: {}", ended.err);

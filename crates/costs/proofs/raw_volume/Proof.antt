@@ -1,14 +1,9 @@
 -- `costs::raw_volume` meets its contract. Assumes nothing.
-use mathlib.Core.Path.{_≡_, refl, sym, _∙_}
+use mathlib.Core.Path.{_≡_, refl, sym, ap, _∙_}
 use denote.Ref.{now}
-use lib.Ieee.{ofBits}
 use lib.ListN.{length}
-use mir.Syntax.{w32}
-use mir.Val.{toZ, ofZ}
-use mir.ValLaws.{toZ-ofZ}
 use Rattle.refusals.specs.declared.Call.{Call}
 use Rattle.refusals.specs.Refusals.{refusal}
-use Rattle.refusals.specs.Accepted.{Accepted}
 use Rattle.refusals.proofs.Rows.{accepted}
 use Rattle.costs.specs.Outcome.{rawCall}
 use Rattle.costs.proofs.Outcomes.{sized, refused, made}
@@ -16,25 +11,18 @@ use borrow.Author.Needs.{needs}
 use Rattle.costs.proofs.raw_volume.Statement.{statement}
 use Rattle.costs.proofs.raw_volume.Tie as tie
 
--- the two signed numbers, as the machine reads them back from their bits
-back-first : (z : tie.Start) → toZ w32 (ofZ w32 (z .args .opts .«min_disparity»)) ≡ z .args .opts .«min_disparity»
-back-first z = toZ-ofZ w32 (z .args .opts .«min_disparity») (search (needs, z .good))
-
-back-count : (z : tie.Start) → toZ w32 (ofZ w32 (z .args .opts .«num_disparities»)) ≡ z .args .opts .«num_disparities»
-back-count z = toZ-ofZ w32 (z .args .opts .«num_disparities») (search (needs, z .good))
-
 abbrev call : tie.Start → Call
 call z = rawCall (now (z .args .left)) (z .args .left-w) (z .args .left-h) (now (z .args .right)) (z .args .right-w) (z .args .right-h) (z .args .opts) (length (now (z .args .out))) (length (now (z .args .room)))
 
 refusal-is : (c : tie.After-refusal) → c .refusal .result ≡ refusal (call (c .before .before .before .before .before .before))
-unfolding ofBits
-refusal-is c =
-    let z = c .before .before .before .before .before .before in
-    rw (back-first z, back-count z) at (c .refusal .ensures)
+refusal-is c = c .refusal .ensures ∙ ap refusal (c .before .raw-call .ensures)
 
 -- past the test nothing is refused
 fine : (c : tie.Else1) → refusal (call (c .before .before .before .before .before .before .before)) ≡ 0
 fine c = sym (refusal-is (c .before)) ∙ c .if1 .left
+
+raw-call-requires : tie.Need-raw-call-requires
+raw-call-requires c κs = search needs
 
 refusal-requires : tie.Need-refusal-requires
 refusal-requires c κs = search needs
@@ -62,4 +50,4 @@ returns-2 c =
 pub raw-volume-spec : {M : Type 1} → statement M
 raw-volume-spec =
     tie.close
-    (tie.spec refusal-requires returns volume-of-requires same-length same-length-2 returns-2)
+    (tie.spec raw-call-requires refusal-requires returns volume-of-requires same-length same-length-2 returns-2)
