@@ -50,7 +50,7 @@ no-number c u p q = let z : _≡_ {A = ℕ} 0 1 = cc in omega arith
 same-number : (c : RawCost) (u v : Float) → c ≡ Corr u → c ≡ Corr v → u ≡ v
 same-number c u v p q = cc
 
-within-finite : (v : Float) → Within v → T (finite v)
+pub within-finite : (v : Float) → Within v → T (finite v)
 unfolding le
 within-finite nan h = absurd (h .0)
 within-finite (inf true) h = absurd (h .0)

@@ -1,7 +1,7 @@
 -- The raw cost of two windows, from what the room holds. Assumes nothing.
 use Prim.Native.Nat.{ℕ, _+_, _*_, _≤_, _<_, _/_}
-use mathlib.Core.Path.{_≡_, refl, sym, ap, _∙_}
-use mathlib.Core.Bool.{Bool, true, false, not, _||_}
+use mathlib.Core.Path.{_≡_, sym, ap, _∙_}
+use mathlib.Core.Bool.{not, or-true}
 use mathlib.Core.List.{List}
 use mathlib.Core.Logic.{⊎-elim}
 use native.Mathlib.Nat.{eq-zero-or-pos}
@@ -30,10 +30,6 @@ use Rattle.costs.proofs.OneLevel.{flat-one, one-level}
 
 pub pos-of-ne : (v : ℕ) → (v ≡ 0 → ⊥) → 1 ≤ v
 pos-of-ne v n = ⊎-elim (λ (e : v ≡ 0). absurd (n e)) (λ (l : 0 < v). l) (eq-zero-or-pos v)
-
-or-true : (t : Bool) → t || true ≡ true
-or-true true = refl
-or-true false = refl
 
 module _ (w r : ℕ) (a b : List ℕ) (s : ℤ) (x x′ y : ℕ) where
   pub blank-here : windowVar w a x y r ≡ 0 → Blank ≡ pairCost w r a b s x x′ y

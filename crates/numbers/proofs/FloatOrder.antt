@@ -1,12 +1,12 @@
 -- The order of finite floats. Assumes nothing.
 use Prim.Native.Nat.{ℕ, _+_, _*_, _<_, _≤_}
-use mathlib.Core.Path.{_≡_, refl, sym, _∙_}
-use mathlib.Core.Bool.{Bool, true, false, true≢false, false≢true}
+use mathlib.Core.Path.{_≡_, refl, sym, _∙_, subst}
+use mathlib.Core.Bool.{Bool, true, false, _||_, and-eq-true-iff, true≢false, false≢true}
 use native.Mathlib.Nat.{mul-right-comm, add-mul, mul-pos, mul-le-mul-right, mul-lt-mul-of-pos-right}
 use native.Mathlib.Omega.{arith}
-use lib.Dec.{T, ltb}
-use borrow.Author.Tests.{lt-ltb, le-ltb, ltb-true, ltb-false}
-use lib.Ieee.{Float, nan, inf, fin, lt, below, up, down}
+use lib.Dec.{T, eqb, ltb}
+use borrow.Author.Tests.{lt-ltb, le-ltb, eqb-true, ltb-true, ltb-false}
+use lib.Ieee.{Float, nan, inf, fin, lt, le, eq, below, level, up, down}
 use lib.Ieee.Fits.{down-pos}
 use lib.Ieee.Scale.{finite}
 
@@ -95,3 +95,37 @@ lt-over x y z p q r h k = go (lt x z) refl
     go : (t : Bool) → lt x z ≡ t → lt x z ≡ true
     go true e = e
     go false e = absurd (true≢false (sym (lt-under x y z p q r h e) ∙ k))
+
+-- of two equal numbers none is below the other
+level-not : (s : Bool) (a : ℕ) (t : Bool) (b : ℕ) → level s a t b ≡ true → below t b s a ≡ false
+level-not false a false b h = let e = eqb-true a b (and-eq-true-iff (eqb a b) true .0 h .0) in le-ltb b a (omega arith)
+level-not true a true b h = let e = eqb-true a b (and-eq-true-iff (eqb a b) true .0 h .0) in le-ltb a b (omega arith)
+level-not true a false b h = refl
+level-not false a true b h =
+    let both = and-eq-true-iff (eqb a b) (eqb a 0) .0 h in
+    let e = eqb-true a b (both .0) in
+    let z = eqb-true a 0 (both .1) in
+    le-ltb 0 (b + a) (omega arith)
+
+-- the same of floats
+eq-not : (x y : Float) → eq x y ≡ true → lt y x ≡ false
+unfolding eq lt
+eq-not nan y h = absurd (false≢true h)
+eq-not (inf s) nan h = refl
+eq-not (inf true) (inf true) h = refl
+eq-not (inf true) (inf false) h = refl
+eq-not (inf false) (inf true) h = absurd (false≢true h)
+eq-not (inf false) (inf false) h = refl
+eq-not (inf s) (fin t n d) h = absurd (false≢true h)
+eq-not (fin s m e) nan h = refl
+eq-not (fin s m e) (inf t) h = absurd (false≢true h)
+eq-not (fin s m e) (fin t n d) h = level-not s (m * up e * down d) t (n * up d * down e) h
+
+-- y is not below x where x is at most y
+pub le-not : (x y : Float) → le x y ≡ true → lt y x ≡ false
+unfolding le
+le-not x y h = go (lt x y) refl
+  where
+    go : (t : Bool) → lt x y ≡ t → lt y x ≡ false
+    go true e = lt-not x y e
+    go false e = eq-not x y (subst (λ t. t || eq x y ≡ true) e h)

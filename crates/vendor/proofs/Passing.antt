@@ -1,19 +1,18 @@
 -- A pixel passes where every question holds of it. Assumes nothing.
-use Prim.Native.Nat.{ℕ, _+_, _*_, _/_, _%_, _<_}
+use Prim.Native.Nat.{ℕ, _/_, _%_, _<_}
 use mathlib.Core.Path.{_≡_, refl, sym, ap, _∙_, subst}
-use mathlib.Core.Bool.{Bool, true, false, not, _&&_, _||_, true≢false, false≢true}
+use mathlib.Core.Bool.{Bool, true, false, not, _&&_, _||_, or-true, true≢false, false≢true}
 use mathlib.Core.List.{List}
 use mathlib.Core.Logic.{⊎-elim}
 use native.Mathlib.Nat.{le-refl}
-use native.Mathlib.Omega.{arith}
-use borrow.Author.Tests.{lt-ltb, le-ltb, eqb-true, not-true, not-false}
-use lib.Dec.{T, eqb}
+use borrow.Author.Tests.{lt-ltb, le-ltb, not-true, not-false}
+use lib.Dec.{T}
 use lib.ListN.{getD}
-use lib.Ieee.{Float, nan, inf, fin, lt, le, eq, below, level, up, down}
+use lib.Ieee.{Float, nan, inf, fin, lt, le, eq}
 use lib.Ieee.Scale.{finite}
 use Rattle.lists.specs.Lists.{allBelow}
-use Rattle.lists.proofs.Tests.{and-both, all-same, of-all}
-use Rattle.numbers.proofs.FloatOrder.{lt-not, lt-under}
+use Rattle.lists.proofs.Tests.{all-same, of-all}
+use Rattle.numbers.proofs.FloatOrder.{lt-under, le-not}
 use Rattle.numbers.proofs.Plainly.{none-below}
 use Rattle.options.specs.declared.RawCost.{RawCost}
 use Rattle.options.specs.declared.RawCost.the-variants.{Blank, Corr}
@@ -23,6 +22,7 @@ use Rattle.costs.specs.Rooms.{Picture}
 use Rattle.costs.proofs.Laws.{raw-cost-bound}
 use Rattle.choices.specs.declared.subpixel.Search.{Search}
 use Rattle.choices.specs.Subpixel.{disparity}
+use Rattle.choices.proofs.Largest.{within-finite}
 use Rattle.vendor.specs.declared.Check.{Check}
 use Rattle.vendor.specs.declared.cells.Question.the-variants.{Fit, Unbeaten}
 use Rattle.vendor.specs.Verdict.{someBelow, firstNot, costAt, beats, stands, isChoice, passes}
@@ -33,14 +33,6 @@ use Rattle.vendor.proofs.Disparities.{disparity-one}
 
 -- ---- the order of floats
 
--- a number from -1 to 1 is finite
-pub within-finite : (v : Float) → Within v → T (finite v)
-unfolding le
-within-finite nan h = absurd (h .0)
-within-finite (inf true) h = absurd (h .0)
-within-finite (inf false) h = absurd (h .1)
-within-finite (fin s m e) h = tt
-
 -- a number from -1 to 1 is not the cell of a blank cost
 not-blank : (v : Float) → Within v → eq v (inf true) ≡ false
 unfolding le eq
@@ -48,40 +40,6 @@ not-blank nan h = refl
 not-blank (inf true) h = absurd (h .0)
 not-blank (inf false) h = refl
 not-blank (fin s m e) h = refl
-
--- of two equal numbers none is below the other
-level-not : (s : Bool) (a : ℕ) (t : Bool) (b : ℕ) → level s a t b ≡ true → below t b s a ≡ false
-level-not false a false b h = let e = eqb-true a b (and-both (eqb a b) true h .0) in le-ltb b a (omega arith)
-level-not true a true b h = let e = eqb-true a b (and-both (eqb a b) true h .0) in le-ltb a b (omega arith)
-level-not true a false b h = refl
-level-not false a true b h =
-    let both = and-both (eqb a b) (eqb a 0) h in
-    let e = eqb-true a b (both .0) in
-    let z = eqb-true a 0 (both .1) in
-    le-ltb 0 (b + a) (omega arith)
-
--- the same of floats
-eq-not : (x y : Float) → eq x y ≡ true → lt y x ≡ false
-unfolding eq lt
-eq-not nan y h = absurd (false≢true h)
-eq-not (inf s) nan h = refl
-eq-not (inf true) (inf true) h = refl
-eq-not (inf true) (inf false) h = refl
-eq-not (inf false) (inf true) h = absurd (false≢true h)
-eq-not (inf false) (inf false) h = refl
-eq-not (inf s) (fin t n d) h = absurd (false≢true h)
-eq-not (fin s m e) nan h = refl
-eq-not (fin s m e) (inf t) h = absurd (false≢true h)
-eq-not (fin s m e) (fin t n d) h = level-not s (m * up e * down d) t (n * up d * down e) h
-
--- y is not below x where x is at most y
-pub le-not : (x y : Float) → le x y ≡ true → lt y x ≡ false
-unfolding le
-le-not x y h = go (lt x y) refl
-  where
-    go : (t : Bool) → lt x y ≡ t → lt y x ≡ false
-    go true e = lt-not x y e
-    go false e = eq-not x y (subst (λ t. t || eq x y ≡ true) e h)
 
 -- a number that is not above the least does not beat one that is not below it; the least may be no number
 under-least : (c u least : Float) → T (finite c) → T (finite u) → lt c least ≡ false → le u least ≡ true → lt c u ≡ false
@@ -99,11 +57,6 @@ under-least (fin s m e) (fin t n d) (fin r o g) p q h k = go (lt (fin s m e) (fi
     go false l = l
 
 -- ---- raw costs
-
--- a test or true is true
-or-true : (s : Bool) → s || true ≡ true
-or-true true = refl
-or-true false = refl
 
 -- the code's test of a raw cost against one that is not below the least: it does not beat it
 unbeaten-is : (c least : Float) → Within c → lt c least ≡ false → (k : RawCost) → InRange k → le (stored k) least || not (lt c (stored k)) ≡ not (beats k c)
