@@ -69,7 +69,7 @@ fn is_within(w: usize, r: usize, x: usize) -> bool
 }
 
 // The target column of (x, y) with index k, and the width where a window leaves the picture.
-fn target(q: Check, x: usize, y: usize, k: usize) -> usize
+fn target_column(q: Check, x: usize, y: usize, k: usize) -> usize
     requires { ⌜ Sized q × (x < q .w) × (y < q .h) × (k < q .search .count) ⌝ }
     ensures { λ t. ⌜ t ≡ targetOf q x y k ⌝ }
 {
@@ -105,7 +105,7 @@ pub fn direct_cost(
     requires { ⌜ Tabled (now room) q (now left) (now right) × (x < q .w) × (y < q .h) × (k < q .search .count) ⌝ }
     ensures { λ v. ⌜ v ≡ stored (costAt q (now (left .entry)) (now (right .entry)) x y k) ⌝ }
 {
-    let other = target(q, x, y, k);
+    let other = target_column(q, x, y, k);
     if other == q.w {
         return BlockMatchOptions::BLANK.stored();
     }
@@ -118,7 +118,7 @@ pub fn tabled_cost(room: &[u64], q: Check, x: usize, y: usize, k: usize) -> f32
     requires { ⌜ Sized q × Ready (now room) (q .w) (q .h) (q .r) (shiftAt q k) × (x < q .w) × (y < q .h) × (k < q .search .count) ⌝ }
     ensures { λ v. ⌜ ((left right : List ℕ) → RoomOf (now (room .entry)) (q .w) (q .h) (q .r) (shiftAt q k) left right → v ≡ stored (costAt q left right x y k)) ⌝ }
 {
-    let other = target(q, x, y, k);
+    let other = target_column(q, x, y, k);
     if other == q.w {
         return BlockMatchOptions::BLANK.stored();
     }

@@ -18,9 +18,9 @@ fn plain(pair: &Pair, options: &Options, cells: &[f32], repeats: usize) -> f64 {
 }
 
 /// A row of the table: seconds for the block map of a pair with sub-pixel off, and for the check of it, which is a yes, by both.
-fn row(width: usize, height: usize, count: usize, block_size: usize, repeats: usize) {
+fn row(width: usize, height: usize, count: usize, block_size: usize, min_correlation: f32, repeats: usize) {
     let pair = pair(width, height);
-    let options = Options { num_disparities: count as i32, block_size, subpixel: false, ..Options::default() };
+    let options = Options { num_disparities: count as i32, block_size, min_correlation, subpixel: false, ..Options::default() };
     let picture = |bytes| Picture { bytes, width, height };
     let (left, right) = (picture(pair.left.as_slice()), picture(pair.right.as_slice()));
     let mut cells = vec![0.0; width * height];
@@ -37,17 +37,23 @@ fn row(width: usize, height: usize, count: usize, block_size: usize, repeats: us
     let plain = plain(&pair, &options, &cells, repeats);
     let valid = cells.iter().filter(|cell| cell.is_finite()).count();
     println!(
-        "| {width}x{height}x{count} | {block_size} | {valid} | {library:.3} | {matched:.3} | {plain:.3} | {:.2} |",
+        "| {width}x{height}x{count} | {block_size} | {min_correlation} | {valid} | {library:.3} | {matched:.3} | {plain:.3} | {:.2} |",
         library / matched,
     );
 }
 
-/// Two sizes, and the larger one with a larger block.
+/// Two sizes, and the larger one with a larger block, and with a least correlation that every raw cost is above: then a cell's own raw
+/// cost is worked out for every index.
 pub fn table(repeats: usize) {
     println!("the library's own block map, left-right on, sub-pixel off; every answer is yes; best of {repeats}");
-    println!("| pair | block | valid cells | check: library s | match: library s | check: plain Rust s | library: check / match |");
-    println!("|---|---|---|---|---|---|---|");
-    for (width, height, count, block_size) in [(320, 240, 32, 7), (640, 480, 64, 7), (640, 480, 64, 21)] {
-        row(width, height, count, block_size, repeats);
+    println!(
+        "| pair | block | min_correlation | valid cells | check: library s | match: library s | check: plain Rust s | \
+         library: check / match |"
+    );
+    println!("|---|---|---|---|---|---|---|---|");
+    for (width, height, count, block_size, least) in
+        [(320, 240, 32, 7, 0.5), (640, 480, 64, 7, 0.5), (640, 480, 64, 21, 0.5), (640, 480, 64, 7, -1.0)]
+    {
+        row(width, height, count, block_size, least, repeats);
     }
 }

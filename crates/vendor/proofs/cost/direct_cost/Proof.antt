@@ -9,19 +9,19 @@ use Rattle.vendor.proofs.Targets.{Aimed, aimed, missed, aimed-cost, aim
 use Rattle.vendor.proofs.cost.direct_cost.Statement.{statement}
 use Rattle.vendor.proofs.cost.direct_cost.Tie as tie
 
-abbrev entry : tie.After-target → tie.Start
+abbrev entry : tie.After-target-column → tie.Start
 entry c = c .before .before .before .before
 
 -- both windows lie within the pictures
-aim : (c : tie.Else1) → let z = entry (c .before .before) .args in Aimed (z .q) (z .x) (z .y) (z .k) (c .before .before .target .result)
-aim c = aimed _ _ _ _ _ (c .before .before .target .ensures) (c .if1 .left)
+aim : (c : tie.Else1) → let z = entry (c .before .before) .args in Aimed (z .q) (z .x) (z .y) (z .k) (c .before .before .target-column .result)
+aim c = aimed _ _ _ _ _ (c .before .before .target-column .ensures) (c .if1 .left)
 
 -- the sum of their products
 sum-is : (c : tie.After-window-products) → let z = entry (c .before .before .before) .args in c .window-products .result ≡ windowSum (crossAt (z .q .w) (z .left .now) (z .right .now) (shiftAt (z .q) (z .k))) (z .x) (z .y) (z .q .r)
 sum-is c = let z = entry (c .before .before .before) .args in c .window-products .ensures (shiftAt (z .q) (z .k)) (aim (c .before) .apart)
 
-target-requires : tie.Need-target-requires
-target-requires c κs = search needs
+target-column-requires : tie.Need-target-column-requires
+target-column-requires c κs = search needs
 
 stored-requires : tie.Need-stored-requires
 stored-requires c κs = search needs
@@ -29,7 +29,7 @@ stored-requires c κs = search needs
 returns : tie.Need-returns
 returns c =
     let t = c .before .before .before in
-    c .stored .ensures ∙ ap stored (missed _ _ _ _ _ (t .target .ensures) (c .before .if1 .taken) _ _)
+    c .stored .ensures ∙ ap stored (missed _ _ _ _ _ (t .target-column .ensures) (c .before .if1 .taken) _ _)
 
 window-products-requires : tie.Need-window-products-requires
 window-products-requires c κs = aimed-windows (aim c) (entry (c .before .before) .pre .0)
@@ -49,7 +49,7 @@ pub direct-cost-spec : {M : Type 1} → statement M
 direct-cost-spec =
     tie.close
     (tie.spec
-    target-requires
+    target-column-requires
     stored-requires
     returns
     window-products-requires

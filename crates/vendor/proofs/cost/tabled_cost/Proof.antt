@@ -6,15 +6,15 @@ use Rattle.vendor.proofs.Targets.{Aimed, aimed, missed, aimed-cost, aim
 use Rattle.vendor.proofs.cost.tabled_cost.Statement.{statement}
 use Rattle.vendor.proofs.cost.tabled_cost.Tie as tie
 
-abbrev entry : tie.After-target → tie.Start
+abbrev entry : tie.After-target-column → tie.Start
 entry c = c .before .before
 
 -- both windows lie within the pictures
-aim : (c : tie.Else1) → let z = entry (c .before .before) .args in Aimed (z .q) (z .x) (z .y) (z .k) (c .before .before .target .result)
-aim c = aimed _ _ _ _ _ (c .before .before .target .ensures) (c .if1 .left)
+aim : (c : tie.Else1) → let z = entry (c .before .before) .args in Aimed (z .q) (z .x) (z .y) (z .k) (c .before .before .target-column .result)
+aim c = aimed _ _ _ _ _ (c .before .before .target-column .ensures) (c .if1 .left)
 
-target-requires : tie.Need-target-requires
-target-requires c κs = search needs
+target-column-requires : tie.Need-target-column-requires
+target-column-requires c κs = search needs
 
 stored-requires : tie.Need-stored-requires
 stored-requires c κs = search needs
@@ -22,7 +22,7 @@ stored-requires c κs = search needs
 returns : tie.Need-returns
 returns c = λ left right o.
     let t = c .before .before .before in
-    c .stored .ensures ∙ ap stored (missed _ _ _ _ _ (t .target .ensures) (c .before .if1 .taken) left right)
+    c .stored .ensures ∙ ap stored (missed _ _ _ _ _ (t .target-column .ensures) (c .before .if1 .taken) left right)
 
 pair-cost-requires : tie.Need-pair-cost-requires
 pair-cost-requires c κs = aimed-pair (aim c) (entry (c .before .before) .pre .1)
@@ -32,4 +32,4 @@ returns-2 c = λ left right o. c .pair-cost .ensures _ left right o ∙ ap store
 
 pub tabled-cost-spec : {M : Type 1} → statement M
 tabled-cost-spec =
-    tie.close (tie.spec target-requires stored-requires returns pair-cost-requires returns-2)
+    tie.close (tie.spec target-column-requires stored-requires returns pair-cost-requires returns-2)
