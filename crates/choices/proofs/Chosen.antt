@@ -1,7 +1,7 @@
 -- The numbers that a row keeps of a column are the best and the competitor of its raw costs. Assumes nothing.
 use Prim.Native.Nat.{ℕ, zero, suc, _<_}
 use mathlib.Core.Path.{_≡_, refl, sym, ap, _∙_, subst}
-use mathlib.Core.Bool.{Bool, true, false, cond, _&&_, true≢false}
+use mathlib.Core.Bool.{Bool, true, false, cond, _&&_}
 use mathlib.Core.List.{List, map}
 use native.Mathlib.Omega.{arith}
 use lib.Dec.{T}
@@ -22,9 +22,9 @@ use Rattle.choices.specs.declared.subpixel.Search.{Search}
 use Rattle.choices.specs.Block.{better, bestOf, away, rival, competitor, tooClose, gated, blockChoice}
 use Rattle.choices.specs.Subpixel.{placed}
 use Rattle.choices.specs.Extremes.{AllInRange, Finds}
-use Rattle.choices.specs.Leading.{mostOf, indexOf, rivalOf}
+use Rattle.choices.specs.Leading.{mostOf, indexOf, rivalOf, tooNear}
 use Rattle.choices.proofs.Costs.{raw-back}
-use Rattle.choices.proofs.Largest.{best-largest}
+use Rattle.choices.proofs.Largest.{best-in, range-finite, best-largest}
 use Rattle.choices.proofs.Walking.{walk-keeps}
 
 -- ---- one raw cost more
@@ -82,20 +82,17 @@ index-in v (suc n) l = either (lt (mostOf v n) (v n)) n (indexOf v n) (suc n) (o
 abbrev costsBy : (ℕ → Float) → ℕ → List RawCost
 costsBy v n = listOf n (λ k. rawOf (v k))
 
--- what a number says of the best
-abbrev bestFrom : ℕ → Float → Best
-bestFrom j x = cond (eq x (inf true)) Nothing (Found j x)
+-- what the raw cost with its index says of the best
+abbrev pub bestFrom : ℕ → RawCost → Best
+bestFrom j Blank = Nothing
+bestFrom j (Corr u) = Found j u
 
-from-blank : (j : ℕ) (x : Float) → x ≡ inf true → Nothing ≡ bestFrom j x
+from-blank : (j : ℕ) (x : Float) → x ≡ inf true → Nothing ≡ bestFrom j (rawOf x)
 unfolding eq
 from-blank j x e = rw e
 
-from-number : (j : ℕ) (x u : Float) → rawOf x ≡ Corr u → Found j u ≡ bestFrom j x
-from-number j x u e = go (eq x (inf true)) e
-  where
-    go : (t : Bool) → cond t Blank (Corr x) ≡ Corr u → Found j u ≡ cond t Nothing (Found j x)
-    go true h = absurd (let z : _≡_ {A = ℕ} 0 1 = cc in omega arith)
-    go false h = cc
+from-number : (j : ℕ) (x u : Float) → rawOf x ≡ Corr u → Found j u ≡ bestFrom j (rawOf x)
+from-number j x u e = rw e
 
 far-below : (x : Float) → T (finite x) → sub binary32 x (inf true) ≡ inf false
 unfolding sub add neg
@@ -103,9 +100,18 @@ far-below nan f = absurd f
 far-below (inf s) f = absurd f
 far-below (fin s m e) f = refl
 
-close-by : (b : Best) (m best ratio : Float) → T (finite best) → Rivals b m → tooClose best b ratio ≡ lt (sub binary32 best m) ratio
-close-by Nothing m best ratio f h = rw (h, far-below best f) (sym (none-above ratio))
-close-by (Found k u) m best ratio f h = rw h
+-- a competitor's number, taken for a raw cost: negative infinity is infinitely far below
+near-by : (m best ratio : Float) → T (finite best) → tooNear best (rawOf m) ratio ≡ lt (sub binary32 best m) ratio
+unfolding eq
+near-by nan best ratio f = refl
+near-by (inf true) best ratio f = rw (far-below best f) (sym (none-above ratio))
+near-by (inf false) best ratio f = refl
+near-by (fin s a e) best ratio f = refl
+
+close-by : (b : Best) (m best ratio : Float) → T (finite best) → Rivals b m → tooClose best b ratio ≡ tooNear best (rawOf m) ratio
+unfolding eq
+close-by Nothing m best ratio f h = rw h
+close-by (Found k u) m best ratio f h = rw h (sym (near-by m best ratio f))
 
 module _ (v : ℕ → Float) (n : ℕ) (range : (k : ℕ) → k < n → InRange (rawOf (v k))) where
   cost-at : (k : ℕ) → k < n → getD (costsBy v n) k Blank ≡ rawOf (v k)
@@ -138,56 +144,53 @@ module _ (v : ℕ → Float) (n : ℕ) (range : (k : ℕ) → k < n → InRange 
   number-is k c l e = sym (raw-back (v k)) ∙ ap stored (sym (cost-at k l) ∙ e)
 
   module _ (some : 0 < n) where
-    found : (b : Best) → Leads b (mostOf v n) (indexOf v n) → Finds (λ j. j < length (costsBy v n)) (costsBy v n) b → b ≡ bestFrom (indexOf v n) (v (indexOf v n))
+    found : (b : Best) → Leads b (mostOf v n) (indexOf v n) → Finds (λ j. j < length (costsBy v n)) (costsBy v n) b → b ≡ bestFrom (indexOf v n) (rawOf (v (indexOf v n)))
     found Nothing h f = from-blank _ _ (rw (h .1) (number-is 0 Blank some (f 0 (rw listOf-length some))))
     found (Found k u) h f = rw (← h .1) (from-number _ _ _ (sym (cost-at k (short k (f .counts))) ∙ f .there))
 
-    -- the best, if its number is not blank
-    pub best-is : bestOf (costsBy v n) ≡ bestFrom (indexOf v n) (v (indexOf v n))
-    best-is = found (bestOf (costsBy v n)) led (best-largest (costsBy v n) all-range)
+    -- the best, from the raw cost with its index
+    pub best-is : (k : ℕ) (c : RawCost) → k ≡ indexOf v n → c ≡ rawOf (v k) → bestFrom k c ≡ bestOf (costsBy v n)
+    best-is k c at e = rw (e, at) (sym (found (bestOf (costsBy v n)) led (best-largest (costsBy v n) all-range)))
 
-  -- the gate of the competitor: a blank one is infinitely far below a number
-  pub too-close : (j : ℕ) (best ratio : Float) → T (finite best) → tooClose best (competitor j (costsBy v n)) ratio ≡ lt (sub binary32 best (rivalOf j v n)) ratio
-  too-close j best ratio f = close-by (competitor j (costsBy v n)) (rivalOf j v n) best ratio f (rivalled j)
+  -- a best that is found has that index, and is a number
+  module _ (k : ℕ) (best : Float) (is : bestOf (costsBy v n) ≡ Found k best) where
+    pub best-index : k ≡ indexOf v n
+    best-index = subst (λ b. Leads b (mostOf v n) (indexOf v n)) is led .1
+
+    best-finite : T (finite best)
+    best-finite =
+        let l = subst (Finds (λ j. j < length (costsBy v n)) (costsBy v n)) is (best-largest (costsBy v n) all-range) in
+        range-finite (costsBy v n) all-range k best (l .there)
+
+    -- the gate of the competitor
+    pub too-close : (ratio : Float) → tooClose best (competitor k (costsBy v n)) ratio ≡ tooNear best (rawOf (rivalOf k v n)) ratio
+    too-close ratio = close-by (competitor k (costsBy v n)) (rivalOf k v n) best ratio best-finite (rivalled k)
 
 -- ---- the choice
 
-number-finite : (x : Float) → InRange (rawOf x) → eq x (inf true) ≡ false → T (finite x)
-unfolding eq le
-number-finite nan r e = absurd (r .0)
-number-finite (inf true) r e = absurd (true≢false e)
-number-finite (inf false) r e = absurd (r .1)
-number-finite (fin s m e) r h = tt
-
--- from the index of a column's best, its number and its competitor
-module _ (search : Search) (gates : Gates) (v : ℕ → Float) (range : (k : ℕ) → k < search .count → InRange (rawOf (v k))) (some : 0 < search .count)
-    (k : ℕ) (best second : Float) (at : k ≡ indexOf v (search .count)) (number : best ≡ v k) (other : second ≡ rivalOf (indexOf v (search .count)) v (search .count)) where
-  best-of : bestOf (costsBy v (search .count)) ≡ bestFrom k best
-  best-of = rw (number, at) (best-is v (search .count) range some)
-
-  pub choice-blank : eq best (inf true) ≡ true → Mark ≡ blockChoice search gates (costsBy v (search .count))
+-- from a column's best and its competitor
+module _ (search : Search) (gates : Gates) (v : ℕ → Float) (range : (k : ℕ) → k < search .count → InRange (rawOf (v k))) where
+  pub choice-none : bestOf (costsBy v (search .count)) ≡ Nothing → Mark ≡ blockChoice search gates (costsBy v (search .count))
   unfolding blockChoice gated
-  choice-blank e = rw (best-of, e)
+  choice-none is = rw is
 
-  module _ (there : eq best (inf true) ≡ false) where
+  module _ (k : ℕ) (best : Float) (is : bestOf (costsBy v (search .count)) ≡ Found k best) where
+    pub choice-in : k < search .count
+    choice-in = rw listOf-length at (best-in (costsBy v (search .count)) k best is)
+
     pub choice-low : lt best (gates .«min_correlation») ≡ true → Mark ≡ blockChoice search gates (costsBy v (search .count))
     unfolding blockChoice gated
-    choice-low e = rw (best-of, there, e)
+    choice-low e = rw (is, e)
 
-    inside : k < search .count
-    inside = rw at (index-in v (search .count) some)
+    module _ (high : lt best (gates .«min_correlation») ≡ false) (second : RawCost) (other : second ≡ rawOf (rivalOf (indexOf v (search .count)) v (search .count))) where
+      close : tooClose best (competitor k (costsBy v (search .count))) (gates .«uniqueness_ratio») ≡ tooNear best second (gates .«uniqueness_ratio»)
+      close = rw (other, ← best-index v (search .count) range k best is) (too-close v (search .count) range k best is (gates .«uniqueness_ratio»))
 
-    close : tooClose best (competitor k (costsBy v (search .count))) (gates .«uniqueness_ratio») ≡ lt (sub binary32 best second) (gates .«uniqueness_ratio»)
-    close =
-        let whole : T (finite best) = number-finite best (rw number (range k inside)) there in
-        rw (other, ← at) (too-close v (search .count) range k best (gates .«uniqueness_ratio») whole)
-
-    module _ (high : lt best (gates .«min_correlation») ≡ false) where
-      pub choice-close : lt (sub binary32 best second) (gates .«uniqueness_ratio») ≡ true → Mark ≡ blockChoice search gates (costsBy v (search .count))
+      pub choice-close : tooNear best second (gates .«uniqueness_ratio») ≡ true → Mark ≡ blockChoice search gates (costsBy v (search .count))
       unfolding blockChoice gated
-      choice-close e = rw (best-of, there, high, close, e)
+      choice-close e = rw (is, high, close, e)
 
-      pub choice-at : lt (sub binary32 best second) (gates .«uniqueness_ratio») ≡ false
+      pub choice-at : tooNear best second (gates .«uniqueness_ratio») ≡ false
           → At (placed search (map stored (costsBy v (search .count))) k best) ≡ blockChoice search gates (costsBy v (search .count))
       unfolding blockChoice gated
-      choice-at e = rw (best-of, there, high, close, e)
+      choice-at e = rw (is, high, close, e)

@@ -57,7 +57,7 @@ within-finite (inf true) h = absurd (h .0)
 within-finite (inf false) h = absurd (h .1)
 within-finite (fin s m e) h = tt
 
-range-finite : (costs : List RawCost) → AllInRange costs → (j : ℕ) (u : Float) → getD costs j Blank ≡ Corr u → T (finite u)
+pub range-finite : (costs : List RawCost) → AllInRange costs → (j : ℕ) (u : Float) → getD costs j Blank ≡ Corr u → T (finite u)
 range-finite costs r j u e =
     ⊎-elim
     (λ l. within-finite u (subst InRange e (r j l)))

@@ -1,11 +1,13 @@
 -- The best of each column of a row, index by index, as the loops over a row keep it: two rows of plain numbers. Definitions only.
 use Prim.Native.Nat.{ℕ, zero, suc, _+_, _-_}
-use mathlib.Core.Bool.{Bool, true, cond, _&&_, _||_}
+use mathlib.Core.Bool.{Bool, true, false, cond, _&&_, _||_}
 use mathlib.Core.List.{List, _++_}
 use lib.IntN.{pos}
 use lib.ListN.{getD}
-use lib.Ieee.{Float, nan, inf, binary32, ofInt, lt}
+use lib.Ieee.{Float, nan, inf, binary32, ofInt, lt, sub}
 use Rattle.lists.specs.Lists.{listOf}
+use Rattle.options.specs.declared.RawCost.{RawCost}
+use Rattle.options.specs.declared.RawCost.the-variants.{Blank, Corr}
 use Rattle.choices.specs.Block.{away}
 
 -- two rows of w numbers, one after the other
@@ -30,6 +32,11 @@ indexOf v (suc n) = cond (lt (mostOf v n) (v n)) n (indexOf v n)
 unfoldable pub rivalOf : ℕ → (ℕ → Float) → ℕ → Float
 rivalOf j v zero = inf true
 rivalOf j v (suc n) = cond (away j n && lt (rivalOf j v n) (v n)) (v n) (rivalOf j v n)
+
+-- best minus a competitor whose index is not kept is below the ratio; there may be none
+abbrev pub tooNear : Float → RawCost → Float → Bool
+tooNear best Blank ratio = false
+tooNear best (Corr second) ratio = lt (sub binary32 best second) ratio
 
 -- an index, as a float, is more than 1 away from k
 abbrev pub far : Float → ℕ → Bool

@@ -7,6 +7,7 @@ use super::subpixel::refine;
 use lists::clear_f32;
 use lists::fill_first;
 use maps::Cell;
+use options::BlockMatchOptions;
 use options::RawCost;
 ghost use mathlib.Core.Path.{_≡_};
 ghost use mathlib.Core.Bool.{_&&_, _||_, cond};
@@ -16,13 +17,13 @@ ghost use lib.ListN.{length, take};
 ghost use lib.IntN.{pos, natAbs, _+ℤ_};
 ghost use lib.Ieee.{lt};
 ghost use Rattle.lists.specs.Lists.{listOf, cleared};
-ghost use Rattle.options.specs.Costs.{stored};
+ghost use Rattle.options.specs.Costs.{stored, rawOf};
 ghost use Rattle.options.specs.Limits.{sideMost, countMost, firstMost, shiftMost};
 ghost use Rattle.maps.specs.Cells.{inBuffer};
 ghost use Rattle.choices.specs.Subpixel.{placed};
-ghost use Rattle.choices.specs.Block.{blockChoice, blockMap};
+ghost use Rattle.choices.specs.Block.{bestOf, blockChoice, blockMap};
 ghost use Rattle.choices.specs.Seen.{isTurned, seenAs, CellsInRange, RowIn, MapIn, RowSizes, cellIn, columnCosts, movedBy, shiftOf, spanOf, partAt};
-ghost use Rattle.choices.specs.Leading.{indexFloat, far, ledBy, rivalledBy};
+ghost use Rattle.choices.specs.Leading.{indexFloat, far, tooNear, ledBy, rivalledBy};
 ghost use Rattle.choices.specs.RowChoice.{ledIndex, ledRow, rivalIn, rivalRow, columnCell, chosenRow, chosenAt};
 
 // The best raw cost of a pixel with its index, if there is one.
@@ -250,21 +251,46 @@ fn rival_row(work: &mut [f32], raw: &[f32], row: Row, search: Search)
 }
 
 // The raw cost with index k in column x of a row.
-fn cell_at(raw: &[f32], row: Row, search: Search, x: usize, k: usize) -> f32
+fn cell_at(raw: &[f32], row: Row, search: Search, x: usize, k: usize) -> RawCost
     requires { ⌜ RowIn row search (now raw) ⌝ }
     requires { ⌜ k < search .count ⌝ }
     requires { ⌜ x < row .w ⌝ }
-    ensures { λ v. ⌜ v ≡ cellIn row search (now (raw .entry)) x k ⌝ }
+    ensures { λ c. ⌜ c ≡ rawOf (cellIn row search (now (raw .entry)) x k) ⌝ }
 {
     let span = span_of(row, search, k);
     if x < span.lo {
-        return RawCost::Blank.stored();
+        return BlockMatchOptions::BLANK;
     }
     let at = span.from + (x - span.lo);
     if at < span.to {
-        raw[at]
+        RawCost::of_cell(raw[at])
     } else {
-        RawCost::Blank.stored()
+        BlockMatchOptions::BLANK
+    }
+}
+
+// The best of column x, whose index is kept as a float.
+fn best_at(raw: &[f32], row: Row, search: Search, x: usize, at: f32) -> Best
+    requires { ⌜ RowIn row search (now raw) ⌝ }
+    requires { ⌜ CellsInRange (now raw) (search .count * (row .w * row .h)) ⌝ }
+    requires { ⌜ x < row .w ⌝ }
+    requires { ⌜ at ≡ indexFloat (ledIndex row search (now raw) (search .count) x) ⌝ }
+    ensures { λ b. ⌜ b ≡ bestOf (columnCosts row search (now (raw .entry)) x) ⌝ }
+{
+    let k = at as usize;
+    match cell_at(raw, row, search, x, k) {
+        RawCost::Blank => Best::Nothing,
+        RawCost::Corr(v) => Best::Found(k, v),
+    }
+}
+
+// Whether there is a competitor, and best minus it is below the ratio.
+fn is_close(best: f32, rival: RawCost, ratio: f32) -> bool
+    ensures { λ t. ⌜ t ≡ tooNear best rival ratio ⌝ }
+{
+    match rival {
+        RawCost::Blank => false,
+        RawCost::Corr(second) => best - second < ratio,
     }
 }
 
@@ -279,13 +305,13 @@ fn place_cost(raw: &[f32], row: Row, search: Search, x: usize, k: usize, best: f
     if has_sides(search, k) {
         let cm = cell_at(raw, row, search, x, k - 1);
         let cp = cell_at(raw, row, search, x, k + 1);
-        refine(d, cm, best, cp)
+        refine(d, cm.stored(), best, cp.stored())
     } else {
         d
     }
 }
 
-// The choice in column x, from the index of its best and its competitor: a blank competitor rejects nothing.
+// The choice in column x, from the index of its best and its competitor.
 fn choose_column(
     raw: &[f32],
     row: Row,
@@ -293,27 +319,27 @@ fn choose_column(
     gates: Gates,
     x: usize,
     at: f32,
-    rival: f32,
+    rival: RawCost,
 ) -> Cell
     requires { ⌜ RowIn row search (now raw) ⌝ }
     requires { ⌜ CellsInRange (now raw) (search .count * (row .w * row .h)) ⌝ }
     requires { ⌜ x < row .w ⌝ }
     requires { ⌜ at ≡ indexFloat (ledIndex row search (now raw) (search .count) x) ⌝ }
-    requires { ⌜ rival ≡ rivalIn row search (now raw) (search .count) x ⌝ }
+    requires { ⌜ rival ≡ rawOf (rivalIn row search (now raw) (search .count) x) ⌝ }
     ensures { λ c. ⌜ c ≡ blockChoice search gates (columnCosts row search (now (raw .entry)) x) ⌝ }
 {
-    let k = at as usize;
-    let best = cell_at(raw, row, search, x, k);
-    if best == RawCost::Blank.stored() {
-        return Cell::Mark;
+    match best_at(raw, row, search, x, at) {
+        Best::Nothing => Cell::Mark,
+        Best::Found(k, best) => {
+            if best < gates.min_correlation {
+                return Cell::Mark;
+            }
+            if is_close(best, rival, gates.uniqueness_ratio) {
+                return Cell::Mark;
+            }
+            Cell::At(place_cost(raw, row, search, x, k, best))
+        }
     }
-    if best < gates.min_correlation {
-        return Cell::Mark;
-    }
-    if best - rival < gates.uniqueness_ratio {
-        return Cell::Mark;
-    }
-    Cell::At(place_cost(raw, row, search, x, k, best))
 }
 
 // The same for every column, the mark in the frame of r columns.
@@ -325,14 +351,14 @@ fn column_cell(
     gates: Gates,
     x: usize,
     at: f32,
-    rival: f32,
+    rival: RawCost,
 ) -> Cell
     requires { ⌜ RowIn row search (now raw) ⌝ }
     requires { ⌜ CellsInRange (now raw) (search .count * (row .w * row .h)) ⌝ }
     requires { ⌜ r ≤ row .w ⌝ }
     requires { ⌜ x < row .w ⌝ }
     requires { ⌜ at ≡ indexFloat (ledIndex row search (now raw) (search .count) x) ⌝ }
-    requires { ⌜ rival ≡ rivalIn row search (now raw) (search .count) x ⌝ }
+    requires { ⌜ rival ≡ rawOf (rivalIn row search (now raw) (search .count) x) ⌝ }
     ensures { λ c. ⌜ c ≡ columnCell row r search gates (now (raw .entry)) x ⌝ }
 {
     if x < r {
@@ -354,7 +380,7 @@ fn finish_row(work: &mut [f32], raw: &[f32], row: Row, r: usize, search: Search,
 {
     let w = row.w;
     for x in 0..w {
-        let rival = work[x];
+        let rival = RawCost::of_cell(work[x]);
         let at = work[w + x];
         let cell = column_cell(raw, row, r, search, gates, x, at, rival);
         work[x] = cell.stored();
@@ -369,7 +395,7 @@ fn choose_row(work: &mut [f32], raw: &[f32], row: Row, r: usize, search: Search,
     requires { ⌜ length (now work) ≡ row .w + row .w ⌝ }
     ensures { λ _. ⌜ now (work .exit) ≡ chosenRow row r search gates (now (raw .entry)) ⌝ }
 {
-    let blank = RawCost::Blank.stored();
+    let blank = BlockMatchOptions::BLANK.stored();
     clear_f32(work);
     fill_first(work, row.w, blank);
     lead_row(work, raw, row, search);

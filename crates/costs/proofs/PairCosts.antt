@@ -19,8 +19,7 @@ use Rattle.windows.specs.Table.{crossAt}
 use Rattle.windows.specs.Window.{windowSum, Inside, cornerSum, Corners, cells, cornerAt}
 use Rattle.windows.specs.Moments.{covarianceOf}
 use Rattle.costs.specs.Raw.{pixels, windowVar, windowCov, oneLevel, correlation, pairCost}
-use Rattle.options.specs.Costs.{stored}
-use Rattle.costs.specs.Quotient.{Counted, quotientCell}
+use Rattle.costs.specs.Quotient.{Counted, quotientCost}
 use Rattle.costs.specs.Roots.{rootBits}
 use Rattle.costs.specs.Rooms.{TablesOf, Summed, RoomOf, Pair}
 use Rattle.costs.proofs.RootBits.{bits-of-zero, bits-back, bits-number, bits-zero}
@@ -127,23 +126,23 @@ module _ {room : List ℕ} {w h r x x′ y both : ℕ} (p : Summed room w h r x 
 
   module _ (s : ℤ) {a b : List ℕ} (o : TablesOf room w h r a b) (cov : ℤ) (ec : cov ≡ windowCov w a b s x x′ y r) where
     -- where neither window is flat
-    spread : (rootA ≡ 0 → ⊥) → (rootB ≡ 0 → ⊥) → narrowed (div binary64 (ofInt binary64 cov) (mul binary64 (ofBits binary64 rootA) (ofBits binary64 rootB))) ≡ stored (pairCost w r a b s x x′ y)
+    spread : (rootA ≡ 0 → ⊥) → (rootB ≡ 0 → ⊥) → Corr (narrowed (div binary64 (ofInt binary64 cov) (mul binary64 (ofBits binary64 rootA) (ofBits binary64 rootB)))) ≡ pairCost w r a b s x x′ y
     unfolding correlation
     spread n n′ =
         let na = spread-here o n in
         let nb = spread-there o n′ in
         let ra : ofBits binary64 rootA ≡ rootOf (windowVar w a x y r) = ap (ofBits binary64) (root-here o x y (p .first)) ∙ bits-back _ (pos-of-ne _ na) (var-most w h a x y r (o .frame .r-most) (o .first)) in
         let rb : ofBits binary64 rootB ≡ rootOf (windowVar w b x′ y r) = ap (ofBits binary64) (root-there o x′ y (p .second)) ∙ bits-back _ (pos-of-ne _ nb) (var-most w h b x′ y r (o .frame .r-most) (o .second)) in
-        rw (ra, rb, ec) (ap stored (sym (not-blank w r a b s x x′ y na nb)))
+        rw (ra, rb, ec) (sym (not-blank w r a b s x x′ y na nb))
 
-    -- the cell is that of the raw cost
-    pub cell-is : quotientCell (ofInt binary64 cov) rootA rootB ≡ stored (pairCost w r a b s x x′ y)
-    cell-is =
+    -- it is the raw cost
+    pub cost-is : quotientCost (ofInt binary64 cov) rootA rootB ≡ pairCost w r a b s x x′ y
+    cost-is =
         ⊎-elim
-        (λ (z : rootA ≡ 0). rw (eq-eqb rootA 0 z) (ap stored (blank-here w r a b s x x′ y (flat-here o z))))
+        (λ (z : rootA ≡ 0). rw (eq-eqb rootA 0 z) (blank-here w r a b s x x′ y (flat-here o z)))
         (λ (n : 0 < rootA).
         ⊎-elim
-        (λ (z : rootB ≡ 0). rw (ne-eqb rootA 0 (λ e. omega arith), eq-eqb rootB 0 z) (ap stored (blank-there w r a b s x x′ y (flat-there o z))))
+        (λ (z : rootB ≡ 0). rw (ne-eqb rootA 0 (λ e. omega arith), eq-eqb rootB 0 z) (blank-there w r a b s x x′ y (flat-there o z)))
         (λ (n′ : 0 < rootB). rw (ne-eqb rootA 0 (λ e. omega arith), ne-eqb rootB 0 (λ e. omega arith)) (spread (λ e. omega arith) (λ e. omega arith)))
         (eq-zero-or-pos rootB))
         (eq-zero-or-pos rootA)

@@ -1,10 +1,12 @@
 -- The quotient of a raw cost, as it is worked out without a branch. Definitions only.
 use Prim.Native.Nat.{ℕ, _*_, _^_, _<_}
-use mathlib.Core.Bool.{Bool, true, false, not, cond, _||_}
+use mathlib.Core.Bool.{Bool, false, not, cond, _||_}
 use lib.Dec.{T, eqb}
 use lib.IntN.{pos}
-use lib.Ieee.{Float, inf, fin, binary64, ofBits, nanBits, mul, div}
+use lib.Ieee.{Float, fin, binary64, ofBits, nanBits, mul, div}
 use Rattle.numbers.specs.Narrow.{narrowed, Moderate}
+use Rattle.options.specs.declared.RawCost.{RawCost}
+use Rattle.options.specs.declared.RawCost.the-variants.{Blank, Corr}
 
 -- whole numbers that f64 counts, and the two terms of their covariance
 pub record Counted (n sa sb sab : ℕ) : Type 0 where
@@ -27,9 +29,9 @@ one = fin false 1 (pos 0)
 abbrev pub divisorOf : ℕ → ℕ → Float
 divisorOf a b = cond (isFlat a b) one (mul binary64 (ofBits binary64 a) (ofBits binary64 b))
 
--- the covariance over that, narrowed, and negative infinity where it is not wanted
-abbrev pub quotientCell : Float → ℕ → ℕ → Float
-quotientCell cov a b = cond (isFlat a b) (inf true) (narrowed (div binary64 cov (divisorOf a b)))
+-- the covariance over that, narrowed, and blank where it is not wanted
+abbrev pub quotientCost : Float → ℕ → ℕ → RawCost
+quotientCost cov a b = cond (isFlat a b) Blank (Corr (narrowed (div binary64 cov (divisorOf a b))))
 
 -- the bits are no NaN's, and the quotient is of moderate size
 pub record Divisible (cov : Float) (a b : ℕ) : Type 0 where

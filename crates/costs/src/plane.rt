@@ -75,7 +75,7 @@ fn raw_span(
     ensures { λ _. ⌜ ((s : ℤ) (a b : List ℕ) → RoomOf (now (room .entry)) w h r s a b → now (part .exit) ≡ listOf (length (now (part .entry))) (λ i. stored (pairCost w r a b s (x + i) (other + i) y))) ⌝ }
 {
     for i in 0..part.len() {
-        part[i] = pair_cost(room, w, h, r, x + i, other + i, y);
+        part[i] = pair_cost(room, w, h, r, x + i, other + i, y).stored();
     }
 }
 

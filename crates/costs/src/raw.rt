@@ -1,19 +1,21 @@
 // The raw cost of two windows, from the tables of the room. No step of it branches, so that a row of them can be worked out
 // several cells at a time.
 ghost use mathlib.Core.Path.{_≡_};
-ghost use mathlib.Core.Bool.{true, cond};
+ghost use mathlib.Core.Bool.{cond};
 ghost use mathlib.Core.List.{List};
 ghost use Prim.Native.Nat.{ℕ, _^_, _<_};
 ghost use lib.IntN.{ℤ, pos};
-ghost use lib.Ieee.{binary64, inf, ofInt};
-ghost use Rattle.options.specs.Costs.{stored};
+ghost use lib.Ieee.{binary64, ofInt};
+ghost use Rattle.options.specs.declared.RawCost.the-variants.{Blank, Corr};
 ghost use Rattle.costs.specs.Raw.{pairCost};
 ghost use Rattle.windows.specs.Moments.{covarianceOf};
 ghost use Rattle.windows.specs.Table.{crossAt};
 ghost use Rattle.windows.specs.Window.{windowSum};
-ghost use Rattle.costs.specs.Quotient.{Counted, isFlat, one, quotientCell, Divisible};
+ghost use Rattle.costs.specs.Quotient.{Counted, isFlat, one, quotientCost, Divisible};
 ghost use Rattle.costs.specs.Rooms.{TablesOf, Summed, RoomOf, Pair};
 use numbers::narrow::narrow_plain;
+use options::BlockMatchOptions;
+use options::RawCost;
 use windows::window_sum;
 
 // A whole number as an f64. The remainder is the number itself: it tells the compiler that 32 bits are enough.
@@ -46,22 +48,26 @@ fn divisor(flat: bool, product: f64) -> f64
     if flat { 1.0 } else { product }
 }
 
-// The cell of a raw cost: blank where a window shows one level.
-fn cell_of(flat: bool, cost: f32) -> f32
-    ensures { λ v. ⌜ v ≡ cond flat (inf true) cost ⌝ }
+// A raw cost: blank where a window shows one level.
+fn cost_of(flat: bool, corr: f32) -> RawCost
+    ensures { λ c. ⌜ c ≡ cond flat Blank (Corr corr) ⌝ }
 {
-    if flat { -1.0 / 0.0 } else { cost }
+    if flat {
+        BlockMatchOptions::BLANK
+    } else {
+        RawCost::Corr(corr)
+    }
 }
 
 // The covariance over the product of two roots, which are given by their bits.
-pub fn quotient(cov: f64, a: u64, b: u64) -> f32
+pub fn quotient(cov: f64, a: u64, b: u64) -> RawCost
     requires { ⌜ Divisible cov a b ⌝ }
-    ensures { λ v. ⌜ v ≡ quotientCell cov a b ⌝ }
+    ensures { λ c. ⌜ c ≡ quotientCost cov a b ⌝ }
 {
     let flat = is_flat(a, b);
     let product = f64::from_bits(a) * f64::from_bits(b);
-    let cost = narrow_plain(cov / divisor(flat, product));
-    cell_of(flat, cost)
+    let corr = narrow_plain(cov / divisor(flat, product));
+    cost_of(flat, corr)
 }
 
 // The same of the windows at (x, y) of the reference and at (other, y) of the target, whose sum of products is given.
@@ -74,9 +80,9 @@ pub fn summed_cost(
     other: usize,
     y: usize,
     products: u64,
-) -> f32
+) -> RawCost
     requires { ⌜ Summed (now room) w h r x other y products ⌝ }
-    ensures { λ v. ⌜ ((s : ℤ) (a b : List ℕ) → TablesOf (now (room .entry)) w h r a b → products ≡ windowSum (crossAt w a b s) x y r → v ≡ stored (pairCost w r a b s x other y)) ⌝ }
+    ensures { λ c. ⌜ ((s : ℤ) (a b : List ℕ) → TablesOf (now (room .entry)) w h r a b → products ≡ windowSum (crossAt w a b s) x y r → c ≡ pairCost w r a b s x other y) ⌝ }
 {
     let side = w + 1;
     let cells = side * (h + 1);
@@ -93,7 +99,7 @@ pub fn summed_cost(
     quotient(cov as f64, room[cells + here], room[3 * cells + there])
 }
 
-// The cell of the raw cost of the window at (x, y) of the reference and the one at (other, y) of the target.
+// The raw cost of the window at (x, y) of the reference and the one at (other, y) of the target.
 pub fn pair_cost(
     room: &[u64],
     w: usize,
@@ -102,9 +108,9 @@ pub fn pair_cost(
     x: usize,
     other: usize,
     y: usize,
-) -> f32
+) -> RawCost
     requires { ⌜ Pair (now room) w h r x other y ⌝ }
-    ensures { λ v. ⌜ ((s : ℤ) (a b : List ℕ) → RoomOf (now (room .entry)) w h r s a b → v ≡ stored (pairCost w r a b s x other y)) ⌝ }
+    ensures { λ c. ⌜ ((s : ℤ) (a b : List ℕ) → RoomOf (now (room .entry)) w h r s a b → c ≡ pairCost w r a b s x other y) ⌝ }
 {
     let side = w + 1;
     let corner = (y - r) * side + (x - r);

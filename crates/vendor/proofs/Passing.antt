@@ -1,7 +1,7 @@
 -- A pixel passes where every question holds of it. Assumes nothing.
 use Prim.Native.Nat.{ℕ, _/_, _%_, _<_}
 use mathlib.Core.Path.{_≡_, refl, sym, ap, _∙_, subst}
-use mathlib.Core.Bool.{Bool, true, false, not, _&&_, _||_, or-true, true≢false, false≢true}
+use mathlib.Core.Bool.{Bool, true, false, not, _&&_, _||_, true≢false, false≢true}
 use mathlib.Core.List.{List}
 use mathlib.Core.Logic.{⊎-elim}
 use native.Mathlib.Nat.{le-refl}
@@ -13,11 +13,10 @@ use lib.Ieee.Scale.{finite}
 use Rattle.lists.specs.Lists.{allBelow}
 use Rattle.lists.proofs.Tests.{all-same, of-all}
 use Rattle.numbers.proofs.FloatOrder.{lt-under, le-not}
-use Rattle.numbers.proofs.Plainly.{none-below}
 use Rattle.options.specs.declared.RawCost.{RawCost}
 use Rattle.options.specs.declared.RawCost.the-variants.{Blank, Corr}
 use Rattle.options.specs.declared.Side.the-variants.{Left}
-use Rattle.options.specs.Costs.{stored, Within, InRange}
+use Rattle.options.specs.Costs.{Within, InRange}
 use Rattle.costs.specs.Rooms.{Picture}
 use Rattle.costs.proofs.Laws.{raw-cost-bound}
 use Rattle.choices.specs.declared.subpixel.Search.{Search}
@@ -26,20 +25,12 @@ use Rattle.choices.proofs.Largest.{within-finite}
 use Rattle.vendor.specs.declared.Check.{Check}
 use Rattle.vendor.specs.declared.cells.Question.the-variants.{Fit, Unbeaten}
 use Rattle.vendor.specs.Verdict.{someBelow, firstNot, costAt, beats, stands, isChoice, passes}
-use Rattle.vendor.specs.Tests.{indexNamed, ownCost, isFit, holds, holdsAt}
+use Rattle.vendor.specs.Tests.{indexNamed, ownCost, isFit, isUnbeaten, holds, holdsAt}
 use Rattle.vendor.specs.Ready.{Searched, Sized}
 use Rattle.vendor.proofs.Firsts.{Fails, first-or, first-none, some-here, some-none}
 use Rattle.vendor.proofs.Disparities.{disparity-one}
 
 -- ---- the order of floats
-
--- a number from -1 to 1 is not the cell of a blank cost
-not-blank : (v : Float) → Within v → eq v (inf true) ≡ false
-unfolding le eq
-not-blank nan h = refl
-not-blank (inf true) h = absurd (h .0)
-not-blank (inf false) h = refl
-not-blank (fin s m e) h = refl
 
 -- a number that is not above the least does not beat one that is not below it; the least may be no number
 under-least : (c u least : Float) → T (finite c) → T (finite u) → lt c least ≡ false → le u least ≡ true → lt c u ≡ false
@@ -59,8 +50,8 @@ under-least (fin s m e) (fin t n d) (fin r o g) p q h k = go (lt (fin s m e) (fi
 -- ---- raw costs
 
 -- the code's test of a raw cost against one that is not below the least: it does not beat it
-unbeaten-is : (c least : Float) → Within c → lt c least ≡ false → (k : RawCost) → InRange k → le (stored k) least || not (lt c (stored k)) ≡ not (beats k c)
-unbeaten-is c least w h Blank r = rw (none-below c) (or-true (le (inf true) least))
+unbeaten-is : (c least : Float) → Within c → lt c least ≡ false → (k : RawCost) → InRange k → isUnbeaten least (Corr c) k ≡ not (beats k c)
+unbeaten-is c least w h Blank r = refl
 unbeaten-is c least w h (Corr u) r = go (le u least) refl
   where
     go : (t : Bool) → le u least ≡ t → t || not (lt c u) ≡ not (lt c u)
@@ -69,17 +60,16 @@ unbeaten-is c least w h (Corr u) r = go (le u least) refl
 
 -- a raw cost is fit, and that of no index beats it, as the code tests it
 abbrev tested : Float → ℕ → (ℕ → RawCost) → RawCost → Bool
-tested least n costs own = isFit least (stored own) && allBelow n (λ k. le (stored (costs k)) least || not (lt (stored own) (stored (costs k))))
+tested least n costs own = isFit least own && allBelow n (λ k. isUnbeaten least own (costs k))
 
 -- that is whether it stands, a raw cost being blank or from -1 to 1
 tested-stands : (least : Float) (n : ℕ) (costs : ℕ → RawCost) → ((k : ℕ) → InRange (costs k)) → (own : RawCost) → InRange own
     → tested least n costs own ≡ stands least n costs own
-unfolding eq
 tested-stands least n costs range Blank r = refl
-tested-stands least n costs range (Corr c) r = rw (not-blank c r) (go (lt c least) refl)
+tested-stands least n costs range (Corr c) r = go (lt c least) refl
   where
     go : (t : Bool) → lt c least ≡ t
-        → not t && allBelow n (λ k. le (stored (costs k)) least || not (lt c (stored (costs k)))) ≡ not t && allBelow n (λ k. not (beats (costs k) c))
+        → not t && allBelow n (λ k. isUnbeaten least (Corr c) (costs k)) ≡ not t && allBelow n (λ k. not (beats (costs k) c))
     go true e = refl
     go false e = all-same n _ _ (λ k l. unbeaten-is c least r e (costs k) (range k))
 

@@ -1,16 +1,15 @@
 -- How the cells are tested: each against one raw cost at a time. Definitions only.
 use Prim.Native.Nat.{ℕ, _/_, _%_}
-use mathlib.Core.Bool.{Bool, true, cond, not, _&&_, _||_}
+use mathlib.Core.Bool.{Bool, true, false, cond, not, _||_}
 use mathlib.Core.List.{List}
 use lib.Dec.{ltb}
 use lib.IntN.{ℤ, pos, negsuc, _+ℤ_}
 use lib.ListN.{getD}
-use lib.Ieee.{Float, nan, inf, eq, lt, le}
+use lib.Ieee.{Float, nan, eq, lt, le}
 use lib.Ieee.Scale.{finite}
 use Rattle.options.specs.declared.RawCost.{RawCost}
-use Rattle.options.specs.declared.RawCost.the-variants.{Blank}
+use Rattle.options.specs.declared.RawCost.the-variants.{Blank, Corr}
 use Rattle.options.specs.declared.Side.the-variants.{Left}
-use Rattle.options.specs.Costs.{stored}
 use Rattle.costs.specs.Raw.{within, inFrame, shiftOf}
 use Rattle.choices.specs.declared.subpixel.Search.{Search}
 use Rattle.choices.specs.Subpixel.{disparity}
@@ -41,16 +40,20 @@ unfoldable pub ownCost : Check → List ℕ → List ℕ → ℕ → ℕ → Flo
 ownCost q left right x y v =
     cond (ltb (indexNamed (q .search) v) (q .search .count)) (costAt q left right x y (indexNamed (q .search) v)) Blank
 
--- not blank, and not below the least correlation
-abbrev pub isFit : Float → Float → Bool
-isFit least own = not (eq own (inf true)) && not (lt own least)
+-- not blank, and not below a number
+abbrev pub isFit : Float → RawCost → Bool
+isFit least Blank = false
+isFit least (Corr own) = not (lt own least)
 
--- what a valid number is asked: whether its own raw cost is fit; and whether that of index k does not beat it, which one that is not above the
--- least correlation cannot
+-- a raw cost does not beat another, which is fit: one that is blank or not above the least correlation cannot
+abbrev pub isUnbeaten : Float → RawCost → RawCost → Bool
+isUnbeaten least own Blank = true
+isUnbeaten least own (Corr c) = le c least || isFit c own
+
+-- what a valid number is asked: whether its own raw cost is fit; and whether that of index k does not beat it
 abbrev pub holds : Check → List ℕ → List ℕ → ℕ → ℕ → Question → Float → Bool
-holds q left right x y Fit v = isFit (q .least) (stored (ownCost q left right x y v))
-holds q left right x y (Unbeaten k) v =
-    le (stored (costAt q left right x y k)) (q .least) || not (lt (stored (ownCost q left right x y v)) (stored (costAt q left right x y k)))
+holds q left right x y Fit v = isFit (q .least) (ownCost q left right x y v)
+holds q left right x y (Unbeaten k) v = isUnbeaten (q .least) (ownCost q left right x y v) (costAt q left right x y k)
 
 -- what pixel p of a map is asked; one that is not valid passes
 unfoldable pub holdsAt : Check → List ℕ → List ℕ → Question → List Float → ℕ → Bool

@@ -4,7 +4,6 @@ ghost use mathlib.Core.Bool.{not, _||_};
 ghost use Prim.Native.Nat.{_+_, _*_, _/_, _%_, _^_, _≤_, _<_};
 ghost use lib.ListN.{length};
 ghost use lib.Ieee.Scale.{finite};
-ghost use Rattle.options.specs.Costs.{stored};
 ghost use Rattle.vendor.specs.declared.cells.Question.the-variants.{Unbeaten};
 ghost use Rattle.vendor.specs.Verdict.{firstNot};
 ghost use Rattle.vendor.specs.Tests.{indexNamed, ownCost, isFit, holds, holdsAt};
@@ -16,6 +15,7 @@ use choices::subpixel::Search;
 use choices::subpixel::disparity_at;
 use numbers::plain::is_finite;
 use options::BlockMatchOptions;
+use options::RawCost;
 
 // What a valid cell is asked: whether its own raw cost is fit, or whether that of one index does not beat it.
 pub enum Question {
@@ -64,28 +64,35 @@ fn index_named(search: Search, v: f32) -> usize
     k
 }
 
-// The cell of the raw cost of the disparity that a number is, blank where it is none.
-fn own_cost(left: &[u8], right: &[u8], room: &[u64], q: Check, x: usize, y: usize, v: f32) -> f32
+// The raw cost of the disparity that a number is, blank where it is none.
+fn own_cost(
+    left: &[u8],
+    right: &[u8],
+    room: &[u64],
+    q: Check,
+    x: usize,
+    y: usize,
+    v: f32,
+) -> RawCost
     requires { ⌜ Tabled (now room) q (now left) (now right) × (x < q .w) × (y < q .h) ⌝ }
-    ensures { λ c. ⌜ c ≡ stored (ownCost q (now (left .entry)) (now (right .entry)) x y v) ⌝ }
+    ensures { λ c. ⌜ c ≡ ownCost q (now (left .entry)) (now (right .entry)) x y v ⌝ }
 {
     let search = q.search;
     let k = index_named(search, v);
     if k < search.count {
         direct_cost(left, right, room, q, x, y, k)
     } else {
-        BlockMatchOptions::BLANK.stored()
+        BlockMatchOptions::BLANK
     }
 }
 
-// Whether a raw cost, by its cell, is not blank and not below the least correlation.
-fn is_fit(least: f32, own: f32) -> bool
+// Whether a raw cost is not blank and not below a number.
+fn is_fit(least: f32, own: RawCost) -> bool
     ensures { λ t. ⌜ t ≡ isFit least own ⌝ }
 {
-    if own == BlockMatchOptions::BLANK.stored() {
-        false
-    } else {
-        !(own < least)
+    match own {
+        RawCost::Blank => false,
+        RawCost::Corr(v) => !(v < least),
     }
 }
 
@@ -104,11 +111,16 @@ fn is_unbeaten(
     requires { ⌜ Tabled (now room) q (now left) (now right) × Asked (now room) q (now left) (now right) (Unbeaten k) × (x < q .w) × (y < q .h) ⌝ }
     ensures { λ t. ⌜ t ≡ holds q (now (left .entry)) (now (right .entry)) x y (Unbeaten k) v ⌝ }
 {
-    let cost = tabled_cost(room, q, x, y, k);
+    let RawCost::Corr(cost) = tabled_cost(room, q, x, y, k) else {
+        return true;
+    };
     if cost <= q.least {
         return true;
     }
-    !(own_cost(left, right, room, q, x, y, v) < cost)
+    let RawCost::Corr(own) = own_cost(left, right, room, q, x, y, v) else {
+        return false;
+    };
+    !(own < cost)
 }
 
 // What a cell at (x, y) answers; one that is not valid passes.

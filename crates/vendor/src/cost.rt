@@ -6,7 +6,6 @@ ghost use lib.IntN.{ℤ, pos, _+ℤ_};
 ghost use lib.ListN.{length};
 ghost use Rattle.lists.specs.Sums.{sumTo};
 ghost use Rattle.options.specs.Limits.{sideMost};
-ghost use Rattle.options.specs.Costs.{stored};
 ghost use Rattle.windows.specs.Table.{crossAt};
 ghost use Rattle.windows.specs.Window.{windowSum};
 ghost use Rattle.windows.specs.Parts.{productIn};
@@ -20,6 +19,7 @@ use costs::raw::pair_cost;
 use costs::raw::summed_cost;
 use costs::volume::shift_at;
 use options::BlockMatchOptions;
+use options::RawCost;
 use options::Side;
 use windows::product;
 
@@ -92,7 +92,7 @@ fn target_column(q: Check, x: usize, y: usize, k: usize) -> usize
     }
 }
 
-// The cell of the raw cost at (x, y) with index k, from the products themselves.
+// The raw cost at (x, y) with index k, from the products themselves.
 pub fn direct_cost(
     left: &[u8],
     right: &[u8],
@@ -101,26 +101,26 @@ pub fn direct_cost(
     x: usize,
     y: usize,
     k: usize,
-) -> f32
+) -> RawCost
     requires { ⌜ Tabled (now room) q (now left) (now right) × (x < q .w) × (y < q .h) × (k < q .search .count) ⌝ }
-    ensures { λ v. ⌜ v ≡ stored (costAt q (now (left .entry)) (now (right .entry)) x y k) ⌝ }
+    ensures { λ c. ⌜ c ≡ costAt q (now (left .entry)) (now (right .entry)) x y k ⌝ }
 {
     let other = target_column(q, x, y, k);
     if other == q.w {
-        return BlockMatchOptions::BLANK.stored();
+        return BlockMatchOptions::BLANK;
     }
     let products = window_products(left, right, q.w, q.h, q.r, x, other, y);
     summed_cost(room, q.w, q.h, q.r, x, other, y, products)
 }
 
 // The same from the products' table of index k, which stands in the room.
-pub fn tabled_cost(room: &[u64], q: Check, x: usize, y: usize, k: usize) -> f32
+pub fn tabled_cost(room: &[u64], q: Check, x: usize, y: usize, k: usize) -> RawCost
     requires { ⌜ Sized q × Ready (now room) (q .w) (q .h) (q .r) (shiftAt q k) × (x < q .w) × (y < q .h) × (k < q .search .count) ⌝ }
-    ensures { λ v. ⌜ ((left right : List ℕ) → RoomOf (now (room .entry)) (q .w) (q .h) (q .r) (shiftAt q k) left right → v ≡ stored (costAt q left right x y k)) ⌝ }
+    ensures { λ c. ⌜ ((left right : List ℕ) → RoomOf (now (room .entry)) (q .w) (q .h) (q .r) (shiftAt q k) left right → c ≡ costAt q left right x y k) ⌝ }
 {
     let other = target_column(q, x, y, k);
     if other == q.w {
-        return BlockMatchOptions::BLANK.stored();
+        return BlockMatchOptions::BLANK;
     }
     pair_cost(room, q.w, q.h, q.r, x, other, y)
 }

@@ -5,6 +5,7 @@ use native.Mathlib.Omega.{arith}
 use lib.ListN.{length}
 use denote.Ref.{now}
 use borrow.Author.Needs.{needs}
+use Rattle.options.specs.Costs.{rawOf}
 use Rattle.maps.specs.Cells.{inBuffer}
 use Rattle.choices.proofs.Halves.{halves-length}
 use Rattle.choices.proofs.Finishing.{FinishInv, finish-none, finish-done, finish-rival, finish-index, finish-next}
@@ -20,11 +21,14 @@ abbrev μ-loop : tie.MeasureT-loop
 loop-holds : tie.Need-loop-holds Inv-loop μ-loop
 loop-holds c = finish-none _ _ _ _ _ _ (c .before .before .pre .1 .1 .1)
 
-mul-rival : tie.Need-mul-rival Inv-loop μ-loop
-mul-rival c = search needs
+mul-of-cell : tie.Need-mul-of-cell Inv-loop μ-loop
+mul-of-cell c = search needs
 
-slice-read-rival : tie.Need-slice-read-rival Inv-loop μ-loop
-slice-read-rival c = search needs
+slice-read-of-cell : tie.Need-slice-read-of-cell Inv-loop μ-loop
+slice-read-of-cell c = search needs
+
+of-cell-requires : tie.Need-of-cell-requires Inv-loop μ-loop
+of-cell-requires c κs = search needs
 
 add-at : tie.Need-add-at Inv-loop μ-loop
 add-at c = search needs
@@ -37,12 +41,12 @@ slice-read-at c = search needs
 
 column-cell-requires : tie.Need-column-cell-requires Inv-loop μ-loop
 column-cell-requires c κs =
-    let turn = c .before .before in
+    let turn = c .before .before .before in
     let at = turn .before in
     let start = at .before .before .before in
     let rival = finish-rival _ _ _ _ _ _ _ (at .loop .inv) (turn .loop-test .taken) in
     let index = finish-index _ _ _ _ _ _ _ (at .loop .inv) (turn .loop-test .taken) in
-    (start .pre .0, (start .pre .1 .0, (start .pre .1 .1 .0, (turn .loop-test .taken, (index, rival)))))
+    (start .pre .0, (start .pre .1 .0, (start .pre .1 .1 .0, (turn .loop-test .taken, (index, c .before .of-cell .ensures ∙ ap rawOf rival)))))
 
 stored-requires : tie.Need-stored-requires Inv-loop μ-loop
 stored-requires c κs = search needs
@@ -61,7 +65,7 @@ loop-less c = omega arith
 
 loop-again : tie.Need-loop-again Inv-loop μ-loop
 loop-again c =
-    let turn = c .before .before .before .before in
+    let turn = c .before .before .before .before .before in
     finish-next _ _ _ _ _ _ _ (turn .before .loop .inv) (turn .loop-test .taken) _ (c .stored .ensures ∙ ap inBuffer (c .before .column-cell .ensures))
 
 same-length : tie.Need-same-length Inv-loop μ-loop
@@ -77,8 +81,9 @@ finish-row-spec =
     Inv-loop
     μ-loop
     loop-holds
-    mul-rival
-    slice-read-rival
+    mul-of-cell
+    slice-read-of-cell
+    of-cell-requires
     add-at
     mul-at
     slice-read-at

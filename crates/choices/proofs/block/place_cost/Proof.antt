@@ -8,20 +8,19 @@ use lib.ListN.{getD}
 use denote.Ref.{now}
 use borrow.Author.Needs.{needs}
 use Rattle.lists.proofs.Lists.{listOf-at, map-listOf}
-use Rattle.options.specs.Costs.{stored}
+use Rattle.options.specs.Costs.{stored, rawOf}
 use Rattle.choices.specs.declared.block.Row.{Row}
 use Rattle.choices.specs.declared.subpixel.Search.{Search}
 use Rattle.choices.specs.Subpixel.{placed}
 use Rattle.choices.specs.Seen.{cellIn, columnCosts}
-use Rattle.choices.proofs.Costs.{raw-back}
 use Rattle.choices.proofs.Sides.{Sides, sides}
 use Rattle.choices.proofs.block.place_cost.Statement.{statement}
 use Rattle.choices.proofs.block.place_cost.Tie as tie
 
 -- the number with index j
-number : (row : Row) (search : Search) (raw : List Float) (x j : ℕ) → j < search .count → cellIn row search raw x j ≡ getD (map stored (columnCosts row search raw x)) j nan
+number : (row : Row) (search : Search) (raw : List Float) (x j : ℕ) → j < search .count → stored (rawOf (cellIn row search raw x j)) ≡ getD (map stored (columnCosts row search raw x)) j nan
 unfolding columnCosts
-number row search raw x j l = rw (map-listOf, listOf-at) (sym (raw-back _))
+number row search raw x j l = rw (map-listOf, listOf-at)
 
 -- k has two neighbours
 two : (c : tie.Then1) → Sides (c .before .before .before .before .args .search) (c .before .before .before .before .args .k)
@@ -47,13 +46,20 @@ cell-at-requires-2 c κs =
     let start = c .before .before .before .before .before in
     (start .pre .0, (two (c .before) .above, start .pre .1 .1))
 
+stored-requires : tie.Need-stored-requires
+stored-requires c κs = search needs
+
+stored-requires-2 : tie.Need-stored-requires-2
+stored-requires-2 c κs = search needs
+
 refine-requires : tie.Need-refine-requires
 refine-requires c κs = search needs
 
 returns : tie.Need-returns
 unfolding placed
 returns c =
-    let then1 = c .before .before .before in
+    let read = c .before .before .before in
+    let then1 = read .before .before in
     let a = then1 .before .before .before .before .args in
     let z = two then1 in
     let low : a .k - 1 < a .search .count = omega arith in
@@ -62,8 +68,10 @@ returns c =
       then1 .if1 .taken,
       ← number (a .row) (a .search) (now (a .raw)) (a .x) (a .k - 1) low,
       ← number (a .row) (a .search) (now (a .raw)) (a .x) (a .k + 1) (z .above),
-      ← c .before .cell-at2 .ensures,
-      ← c .before .before .cell-at .ensures,
+      ← read .cell-at2 .ensures,
+      ← read .before .cell-at .ensures,
+      ← c .before .before .stored .ensures,
+      ← c .before .stored2 .ensures,
       ← then1 .before .before .disparity-at .ensures,
     )
     (c .refine .ensures)
@@ -82,6 +90,8 @@ place-cost-spec =
     cell-at-requires
     add-cell-at
     cell-at-requires-2
+    stored-requires
+    stored-requires-2
     refine-requires
     returns
     returns-2)

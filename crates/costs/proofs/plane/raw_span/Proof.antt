@@ -1,6 +1,6 @@
 -- `costs::plane::raw_span` meets its contract: after i turns the first i cells are filled. Assumes nothing.
 use Prim.Native.Nat.{ℕ, _+_, _-_, _≤_, _<_}
-use mathlib.Core.Path.{_≡_, refl, _∙_}
+use mathlib.Core.Path.{_≡_, refl, ap, _∙_}
 use mathlib.Core.List.{List, _++_}
 use native.Mathlib.Omega.{arith}
 use denote.Ref.{now}
@@ -37,23 +37,26 @@ add-pair-cost-2 c = let z = c .before .before .before .before in omega (arith, z
 pair-cost-requires : tie.Need-pair-cost-requires Inv-loop μ-loop
 pair-cost-requires c κs = lined-pair (c .before .before .before .before .pre) (c .before .loop .i) (omega (arith, c .before .loop .inv))
 
+stored-requires : tie.Need-stored-requires Inv-loop μ-loop
+stored-requires c κs = search needs
+
 mul-part : tie.Need-mul-part Inv-loop μ-loop
-mul-part c = omega (arith, c .before .before .loop .inv)
+mul-part c = omega (arith, c .before .before .before .loop .inv)
 
 slice-write-part : tie.Need-slice-write-part Inv-loop μ-loop
-slice-write-part c = omega (arith, c .before .before .loop .inv)
+slice-write-part c = omega (arith, c .before .before .before .loop .inv)
 
 add-i : tie.Need-add-i Inv-loop μ-loop
-add-i c = omega (arith, c .before .before .loop .inv, c .before .before .before .before .before .good)
+add-i c = omega (arith, c .before .before .before .loop .inv, c .before .before .before .before .before .before .good)
 
 loop-less : tie.Need-loop-less Inv-loop μ-loop
-loop-less c = omega (arith, c .before .loop-test .taken)
+loop-less c = omega (arith, c .before .before .loop-test .taken)
 
 loop-again : tie.Need-loop-again Inv-loop μ-loop
 loop-again c =
-    let l = c .before .before .loop in
-    let inside : l .i < length (now (c .before .before .before .before .before .args .part)) = omega (arith, l .inv) in
-    (omega arith, l .inv .1, simp length-set (l .inv .2), λ s a b o. rw (l .inv .3 s a b o) (filled-next _ _ _ _ inside (c .pair-cost .ensures s a b o)))
+    let l = c .before .before .before .loop in
+    let inside : l .i < length (now (c .before .before .before .before .before .before .args .part)) = omega (arith, l .inv) in
+    (omega arith, l .inv .1, simp length-set (l .inv .2), λ s a b o. rw (l .inv .3 s a b o) (filled-next _ _ _ _ inside (c .stored .ensures ∙ ap stored (c .before .pair-cost .ensures s a b o))))
 
 same-length : tie.Need-same-length Inv-loop μ-loop
 same-length c = c .before .loop .inv .2
@@ -71,6 +74,7 @@ raw-span-spec =
     add-pair-cost
     add-pair-cost-2
     pair-cost-requires
+    stored-requires
     mul-part
     slice-write-part
     add-i

@@ -4,8 +4,7 @@ use mathlib.Core.Path.{_≡_, ap, _∙_}
 use native.Mathlib.Nat.{mul-le-mul}
 use native.Mathlib.Omega.{arith}
 use lib.Ieee.{binary64, ofInt}
-use Rattle.costs.specs.Quotient.{quotientCell}
-use Rattle.costs.proofs.PairCosts.{spots, sums-counted, cov-is, cell-is}
+use Rattle.costs.proofs.PairCosts.{spots, sums-counted, cov-is, cost-is}
 use Rattle.costs.proofs.Quotients.{divisible}
 use borrow.Author.Needs.{needs}
 use Rattle.costs.proofs.raw.summed_cost.Statement.{statement}
@@ -96,7 +95,7 @@ returns : tie.Need-returns
 returns c = λ s a b o e.
     let p = c .before .before .before .before .before .before .before .pre in
     c .quotient .ensures
-    ∙ rw (c .before .before .before .covariance .ensures) (cell-is p s o _ (cov-is p s o e))
+    ∙ rw (c .before .before .before .covariance .ensures) (cost-is p s o _ (cov-is p s o e))
 
 pub summed-cost-spec : {M : Type 1} → statement M
 summed-cost-spec =

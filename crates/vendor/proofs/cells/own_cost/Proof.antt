@@ -1,8 +1,7 @@
 -- `vendor::cells::own_cost` meets its contract. Assumes nothing.
-use mathlib.Core.Path.{ap, _∙_}
+use mathlib.Core.Path.{_∙_}
 use denote.Ref.{now}
 use borrow.Author.Needs.{needs}
-use Rattle.options.specs.Costs.{stored}
 use Rattle.vendor.proofs.Asking.{own-named, own-none}
 use Rattle.vendor.proofs.cells.own_cost.Statement.{statement}
 use Rattle.vendor.proofs.cells.own_cost.Tie as tie
@@ -13,24 +12,19 @@ index-named-requires c κs = search needs
 direct-cost-requires : tie.Need-direct-cost-requires
 direct-cost-requires c κs = search needs
 
-stored-requires : tie.Need-stored-requires
-stored-requires c κs = search needs
-
 returns : tie.Need-returns
 returns c =
     let call = c .before .before .before in
     let a = call .before .before .before .before .before .args in
     c .direct-cost .ensures
-    ∙ ap stored (own-named (a .q) (now (a .left)) (now (a .right)) (a .x) (a .y) (a .v) _ (call .index-named .ensures) (c .before .if1 .taken))
+    ∙ own-named (a .q) (now (a .left)) (now (a .right)) (a .x) (a .y) (a .v) _ (call .index-named .ensures) (c .before .if1 .taken)
 
 returns-2 : tie.Need-returns-2
 returns-2 c =
-    let call = c .before .before .before in
+    let call = c .before .before in
     let a = call .before .before .before .before .before .args in
-    c .stored .ensures
-    ∙ ap stored (own-none (a .q) (now (a .left)) (now (a .right)) (a .x) (a .y) (a .v) _ (call .index-named .ensures) (c .before .if1 .left))
+    own-none (a .q) (now (a .left)) (now (a .right)) (a .x) (a .y) (a .v) _ (call .index-named .ensures) (c .if1 .left)
 
 pub own-cost-spec : {M : Type 1} → statement M
 own-cost-spec =
-    tie.close
-    (tie.spec index-named-requires direct-cost-requires stored-requires returns returns-2)
+    tie.close (tie.spec index-named-requires direct-cost-requires returns returns-2)

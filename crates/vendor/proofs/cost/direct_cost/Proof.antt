@@ -1,7 +1,6 @@
 -- `vendor::cost::direct_cost` meets its contract: blank where there is no target column, else the cost of the two windows. Assumes nothing.
-use mathlib.Core.Path.{_≡_, ap, _∙_}
+use mathlib.Core.Path.{_≡_, _∙_}
 use borrow.Author.Needs.{needs}
-use Rattle.options.specs.Costs.{stored}
 use Rattle.windows.specs.Table.{crossAt}
 use Rattle.windows.specs.Window.{windowSum}
 use Rattle.vendor.specs.Tests.{shiftAt}
@@ -23,13 +22,10 @@ sum-is c = let z = entry (c .before .before .before) .args in c .window-products
 target-column-requires : tie.Need-target-column-requires
 target-column-requires c κs = search needs
 
-stored-requires : tie.Need-stored-requires
-stored-requires c κs = search needs
-
 returns : tie.Need-returns
 returns c =
-    let t = c .before .before .before in
-    c .stored .ensures ∙ ap stored (missed _ _ _ _ _ (t .target-column .ensures) (c .before .if1 .taken) _ _)
+    let t = c .before .before in
+    missed _ _ _ _ _ (t .target-column .ensures) (c .if1 .taken) _ _
 
 window-products-requires : tie.Need-window-products-requires
 window-products-requires c κs = aimed-windows (aim c) (entry (c .before .before) .pre .0)
@@ -43,14 +39,13 @@ returns-2 : tie.Need-returns-2
 returns-2 c =
     let e = c .before .before in
     let z = entry (e .before .before) in
-    c .summed-cost .ensures (shiftAt (z .args .q) (z .args .k)) _ _ (z .pre .0 .tables) (sum-is (c .before)) ∙ ap stored (aimed-cost (aim e) _ _)
+    c .summed-cost .ensures (shiftAt (z .args .q) (z .args .k)) _ _ (z .pre .0 .tables) (sum-is (c .before)) ∙ aimed-cost (aim e) _ _
 
 pub direct-cost-spec : {M : Type 1} → statement M
 direct-cost-spec =
     tie.close
     (tie.spec
     target-column-requires
-    stored-requires
     returns
     window-products-requires
     summed-cost-requires
