@@ -1,6 +1,6 @@
 -- What was found at a place, step by step, makes what the definitions take from the bytes there. Assumes nothing.
 use Prim.Native.Nat.{ℕ, _+_, _-_, _*_, _≤_, _<_}
-use mathlib.Core.Path.{_≡_, refl, ap, _∙_, subst}
+use mathlib.Core.Path.{_≡_, refl, sym, ap, _∙_, subst}
 use mathlib.Core.Bool.{Bool, true, false, cond}
 use mathlib.Core.List.{List, append-nil}
 use mathlib.Core.Logic.{⊎-elim}
@@ -26,7 +26,7 @@ use Rattle.netpbm.specs.Raster.{Raster, sized}
 use Rattle.netpbm.specs.Pgm.{pgmMagic, takePgmHead, readPgm}
 use Rattle.netpbm.specs.Pfm.{Scale, pfmMagic, space, lineEnd, minus, plus, takeSign, takeFraction, takeScale, takePfmHead, readPfm}
 use Rattle.netpbm.specs.Outcome.{ReadDone}
-use Rattle.netpbm.specs.Answers.{numberMost, held, Place, NumberAt, ScaleAt, PgmAt, PfmAt, DataAt, Fitting, JudgedAs, PictureAs, MapAs}
+use Rattle.netpbm.specs.Answers.{numberMost, held, Place, NumberAt, ScaleAt, PgmAt, PfmAt, DataAt, Fitting, SizedAs, PictureAs, MapAs}
 use Rattle.netpbm.proofs.Headers.{byte-at, past-word, held-min}
 
 -- ---- places
@@ -200,37 +200,56 @@ side-is x n p e = omega (arith, held-min n, side-most x e)
 -- the size, by its tests
 module _ (each x y : ℕ) (bytes : List ℕ) where
   -- the width is no side
-  pub judged-wide : isSide x ≡ false → JudgedAs each x y bytes (size.Refused 43)
+  pub judged-wide : isSide x ≡ false → SizedAs each x y bytes (size.Refused 43)
   unfolding sized
-  judged-wide e w h p q = rw (side-held w, ← p, e)
+  judged-wide e = rw e
 
   module _ (a : isSide x ≡ true) where
     -- the height is no side
-    pub judged-high : isSide y ≡ false → JudgedAs each x y bytes (size.Refused 43)
+    pub judged-high : isSide y ≡ false → SizedAs each x y bytes (size.Refused 43)
     unfolding sized
-    judged-high e w h p q = rw (side-is x w p a, a, side-held h, ← q, e)
+    judged-high e = rw (a, e)
 
     module _ (b : isSide y ≡ true) where
       -- bytes are cut or left over
-      pub judged-long : (length bytes ≡ each * (x * y) → ⊥) → JudgedAs each x y bytes (size.Refused 44)
+      pub judged-long : (length bytes ≡ each * (x * y) → ⊥) → SizedAs each x y bytes (size.Refused 44)
       unfolding sized
-      judged-long far w h p q = rw (side-is x w p a, side-is y h q b, a, b, ne-eqb (length bytes) (each * (x * y)) far)
+      judged-long far = rw (a, b, ne-eqb (length bytes) (each * (x * y)) far)
 
       -- the size goes with the bytes
-      pub judged-is : length bytes ≡ each * (x * y) → JudgedAs each x y bytes (size.Is x y)
+      pub judged-is : length bytes ≡ each * (x * y) → SizedAs each x y bytes (size.Is x y)
       unfolding sized
-      judged-is long w h p q = rw (side-is x w p a, side-is y h q b) (record {
+      judged-is long = record {
         accepted = rw (a, b, eq-eqb (length bytes) (each * (x * y)) long);
         wide = refl;
         high = refl;
         narrow = side-most x a;
         low = side-most y b;
         long = long;
-      })
+      }
+
+-- a width and a height are judged as what is held of them
+held-sized : (each w h : ℕ) (bytes : List ℕ) → sized each (held w) (held h) bytes ≡ sized each w h bytes
+unfolding sized
+held-sized each w h bytes = go (isSide (held w)) refl (isSide (held h)) refl
+  where
+    go : (s : Bool) → isSide (held w) ≡ s → (t : Bool) → isSide (held h) ≡ t → sized each (held w) (held h) bytes ≡ sized each w h bytes
+    go true e true f = ap (λ (a : ℕ). sized each a (held h) bytes) (sym (side-is (held w) w refl e)) ∙ ap (λ (b : ℕ). sized each w b bytes) (sym (side-is (held h) h refl f))
+    go true e false f = rw (side-held w, side-held h, e, f)
+    go false e t f = rw (side-held w, e)
+
+-- what is judged of the numbers that are held is so of those that were read
+held-as : (each w h : ℕ) (bytes : List ℕ) (r : Size) {x y : ℕ} → x ≡ held w → y ≡ held h → SizedAs each x y bytes r → SizedAs each w h bytes r
+held-as each w h bytes (size.Refused n) p q j = sym (held-sized each w h bytes) ∙ rw (p, q) at j
+held-as each w h bytes (size.Is a b) {x} {y} p q j =
+    let e : w ≡ x = omega (arith, held-min w, j .narrow) in
+    let f : h ≡ y = omega (arith, held-min h, j .low) in
+    rw (e, f) j
 
 -- the size of a part that begins at a place and goes to the end
-judged : (each w h at : ℕ) (s : List ℕ) {r r′ : Size} → JudgedAs each w h (take (length s - at) (drop at s)) r → r ≡ r′ → JudgedAs each w h (drop at s) r′
-judged each w h at s j e = rw (part-to-end s at) at (subst (JudgedAs each w h _) e j)
+judged : (each w h at : ℕ) (s : List ℕ) {r r′ : Size} {x y : ℕ} → x ≡ held w → y ≡ held h
+    → SizedAs each x y (take (length s - at) (drop at s)) r → r ≡ r′ → SizedAs each w h (drop at s) r′
+judged each w h at s {r} {r′} {x} {y} p q j e = held-as each w h (drop at s) r′ p q (rw (part-to-end s at) at (subst (SizedAs each x y _) e j))
 
 -- the place of data that go with a size
 fits-at : {s : List ℕ} {each w h at x y : ℕ} → at ≤ length s → Fitting each w h (drop at s) x y → DataAt s each x y at
@@ -255,15 +274,15 @@ module _ (s : List ℕ) where
       top = eq-eqb (f .value .maximum) 255 (omega (arith, f .most, held-min (f .value .maximum)))
 
       -- its size is refused
-      pub picture-refused : {n : ℕ} {r : Size} → JudgedAs 1 w h (take (length s - at) (drop at s)) r → r ≡ size.Refused n → readPgm s ≡ refused n
+      pub picture-refused : {n : ℕ} {r : Size} → SizedAs 1 w h (take (length s - at) (drop at s)) r → r ≡ size.Refused n → readPgm s ≡ refused n
       unfolding readPgm
-      picture-refused j q = rw (f .taken-is, top, ← f .past .here, judged 1 w h at s j q (f .value .width) (f .value .height) (f .wide) (f .high))
+      picture-refused j q = rw (f .taken-is, top, ← f .past .here, judged 1 (f .value .width) (f .value .height) at s (f .wide) (f .high) j q)
 
       -- all of it was judged
-      pub picture-is : {x y : ℕ} {r : Size} → JudgedAs 1 w h (take (length s - at) (drop at s)) r → r ≡ size.Is x y → PictureAs s (picture.Raster x y at)
+      pub picture-is : {x y : ℕ} {r : Size} → SizedAs 1 w h (take (length s - at) (drop at s)) r → r ≡ size.Is x y → PictureAs s (picture.Raster x y at)
       unfolding readPgm
       picture-is j q =
-          let g = judged 1 w h at s j q (f .value .width) (f .value .height) (f .wide) (f .high) in
+          let g = judged 1 (f .value .width) (f .value .height) at s (f .wide) (f .high) j q in
           (rw (f .taken-is, top, ← f .past .here, g .accepted, g .wide, g .high), fits-at (f .past .within) g)
 
 -- ---- a map, by its tests
@@ -275,15 +294,15 @@ module _ (s : List ℕ) where
 
   module _ {o : Order} {w h at : ℕ} (f : PfmAt s (takePfmHead s) o w h at) where
     -- its size is refused
-    pub map-refused : {n : ℕ} {r : Size} → JudgedAs 4 w h (take (length s - at) (drop at s)) r → r ≡ size.Refused n → readPfm s ≡ refused n
+    pub map-refused : {n : ℕ} {r : Size} → SizedAs 4 w h (take (length s - at) (drop at s)) r → r ≡ size.Refused n → readPfm s ≡ refused n
     unfolding readPfm
-    map-refused j q = rw (f .taken-is, ← f .past .here, judged 4 w h at s j q (f .value .width) (f .value .height) (f .wide) (f .high))
+    map-refused j q = rw (f .taken-is, ← f .past .here, judged 4 (f .value .width) (f .value .height) at s (f .wide) (f .high) j q)
 
     -- all of it was judged
-    pub map-is : {x y : ℕ} {r : Size} → JudgedAs 4 w h (take (length s - at) (drop at s)) r → r ≡ size.Is x y → MapAs s (map.Raster o x y at)
+    pub map-is : {x y : ℕ} {r : Size} → SizedAs 4 w h (take (length s - at) (drop at s)) r → r ≡ size.Is x y → MapAs s (map.Raster o x y at)
     unfolding readPfm
     map-is j q =
-        let g = judged 4 w h at s j q (f .value .width) (f .value .height) (f .wide) (f .high) in
+        let g = judged 4 (f .value .width) (f .value .height) at s (f .wide) (f .high) j q in
         (rw (f .taken-is, ← f .past .here, g .accepted, g .wide, g .high, f .ordered), fits-at (f .past .within) g)
 
 -- ---- what the calls that read do, by their tests

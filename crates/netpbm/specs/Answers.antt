@@ -107,10 +107,6 @@ abbrev pub SizedAs : ℕ → ℕ → ℕ → List ℕ → Size → Type 0
 SizedAs each w h bytes (size.Is x y) = Fitting each w h bytes x y
 SizedAs each w h bytes (size.Refused n) = sized each w h bytes ≡ refused n
 
--- the same of every width and height of which the code holds these
-abbrev pub JudgedAs : ℕ → ℕ → ℕ → List ℕ → Size → Type 0
-JudgedAs each width height bytes r = (w h : ℕ) → width ≡ held w → height ≡ held h → SizedAs each w h bytes r
-
 -- a picture or a map all of which was judged: its size and the place of its data
 abbrev pub PictureAs : List ℕ → Picture → Type 0
 PictureAs s (picture.Raster w h at) = (readPgm s ≡ is (record { width = w; height = h; cells = drop at s })) × DataAt s 1 w h at

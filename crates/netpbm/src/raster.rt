@@ -1,7 +1,7 @@
 // A raster's size, judged with the count of its bytes.
 use options::is_side;
 ghost use Prim.Native.Nat.{_≤_};
-ghost use Rattle.netpbm.specs.Answers.{JudgedAs};
+ghost use Rattle.netpbm.specs.Answers.{SizedAs};
 
 // A width and a height, or the refusal.
 pub enum Size {
@@ -12,7 +12,7 @@ pub enum Size {
 // The size that a header says, where it goes with the bytes after the header, `each` for a cell.
 pub fn judge_size(each: usize, width: u64, height: u64, bytes: &[u8]) -> Size
     requires { ⌜ each ≤ 4 ⌝ }
-    ensures { λ r. ⌜ JudgedAs each width height (now (bytes .entry)) r ⌝ }
+    ensures { λ r. ⌜ SizedAs each width height (now (bytes .entry)) r ⌝ }
 {
     let w = width as usize;
     let h = height as usize;

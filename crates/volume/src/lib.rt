@@ -1,6 +1,6 @@
 // The volume of a heap over a rectangle, from points in metres: `metres` has a coordinate in whole millimetres, `site` the rectangle,
 // its cells and its tests, `grid` the cells while they are filled; `heap` has the calls.
-pub mod grid;
+mod grid;
 pub mod heap;
-pub mod metres;
+mod metres;
 pub mod site;
