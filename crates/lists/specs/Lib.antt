@@ -5,4 +5,5 @@ pub mod Sums
 pub mod Stores
 pub mod Steps
 pub mod Writes
+pub mod Given
 pub mod Turned

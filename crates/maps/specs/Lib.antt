@@ -1,3 +1,4 @@
 pub mod Cells
 pub mod Map
+pub mod Given
 pub mod Extremes

@@ -6,4 +6,5 @@ pub mod Pgm
 pub mod Pfm
 pub mod Grammar
 pub mod Outcome
+pub mod Given
 pub mod Answers

@@ -4,4 +4,5 @@ pub mod Number
 pub mod Code
 pub mod Sheet
 pub mod Outcome
+pub mod Given
 pub mod Answers

@@ -3,5 +3,6 @@ pub mod Metres
 pub mod Rectangle
 pub mod Heights
 pub mod Outcome
+pub mod Given
 pub mod Orders
 pub mod Answers
