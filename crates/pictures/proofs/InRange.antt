@@ -20,7 +20,8 @@ use Rattle.lists.specs.Rows.{levelAt}
 use Rattle.options.specs.Limits.{sideMost}
 use Rattle.pictures.specs.declared.Sample.the-variants as sample
 use Rattle.pictures.specs.Picture.{Bytes, shapeOf}
-use Rattle.pictures.specs.Bilinear.{_⊕_, _⊖_, _⊗_, float, one, clamped, placeOf, blended, Readable, valueAt, valueIn, sampleOf, most, Range}
+use Rattle.numbers.specs.Operators.{_⊕_, _⊖_, _⊗_, float}
+use Rattle.pictures.specs.Bilinear.{one, clamped, placeOf, blended, Readable, valueAt, valueIn, sampleOf, most, Range}
 use Rattle.pictures.specs.Bilinear as bilinear
 use Rattle.pictures.proofs.Values.{round-none, sub-at, Upto, upto-of-value}
 use Rattle.pictures.proofs.Places.{float-val, one-val, whole-is, side-upto}
@@ -60,10 +61,10 @@ share-upto k nan h v = absurd v
 share-upto k (inf s) h v = absurd v
 share-upto k (fin true m e) h v = unfold toUnsigned in subst (λ (x : Float). Upto x 1 1) (sym (ap (λ (y : Float). fin true m e ⊖ y) none ∙ less)) refl
   where
-    none : float 0 ≡ bilinear.zero
+    none : float 0 ≡ bilinear.plusZero
     none = unfold ofInt in unfold round in refl
 
-    less : fin true m e ⊖ bilinear.zero ≡ fin true 0 (pos 0)
+    less : fin true m e ⊖ bilinear.plusZero ≡ fin true 0 (pos 0)
     less = unfold ieee.sub in round-none true (m * up e * 1 + 0 * 1 * down e) (down e * 1) (mul-pos (down-pos e) (zero-lt-suc 0)) (omega arith)
 share-upto k (fin false m e) h v =
     subst (λ (q : ℕ). Upto (fin false m e ⊖ float q) 1 1) (sym (whole-is k m e (omega arith) v))
@@ -201,12 +202,12 @@ total-below e u x v y p q =
 
 -- ---- from a bound on the value to the order of floats
 
-zero-or : (x : Float) (a c : ℕ) → Upto x a c → T (le bilinear.zero x)
+zero-or : (x : Float) (a c : ℕ) → Upto x a c → T (le bilinear.plusZero x)
 unfolding le
 zero-or nan a c v = absurd v
 zero-or (inf s) a c v = absurd v
 zero-or (fin true m i) a c v = subst (λ (t : Bool). T (t && (false || eqb (0 * 1 * down i) 0))) (sym (eq-eqb (0 * 1 * down i) (m * up i * 1) (omega arith))) (subst T (sym (eq-eqb (0 * 1 * down i) 0 (omega arith))) tt)
-zero-or (fin false m i) a c v = le-of-values bilinear.zero (fin false m i) 0 1 (m * up i) (down i) (zero-lt-suc 0) (down-pos i) (refl, refl) (refl, refl) (omega arith)
+zero-or (fin false m i) a c v = le-of-values bilinear.plusZero (fin false m i) 0 1 (m * up i) (down i) (zero-lt-suc 0) (down-pos i) (refl, refl) (refl, refl) (omega arith)
 
 upto-most : (x : Float) (a c : ℕ) → 0 < c → a * 2 ^ 31 ≤ (255 * 2 ^ 31 + 1) * c → Upto x a c → T (le x most)
 unfolding le
@@ -266,8 +267,8 @@ value-range pic w h xf yf b r =
     held : (i j : ℕ) → levelAt w pic i j ≤ 255
     held i j = omega (arith, level-small pic w i j b)
 
-    shares : (n : ℕ) (t : Float) → Side n → isNan t ≡ false → Upto (clamped t bilinear.zero (float n ⊖ one) ⊖ float (toUnsigned 64 (clamped t bilinear.zero (float n ⊖ one)))) 1 1
-    shares n t g i = share-upto (n - 1) (clamped t bilinear.zero (float n ⊖ one)) (omega (arith, g .most)) (side-upto n t g i)
+    shares : (n : ℕ) (t : Float) → Side n → isNan t ≡ false → Upto (clamped t bilinear.plusZero (float n ⊖ one) ⊖ float (toUnsigned 64 (clamped t bilinear.plusZero (float n ⊖ one)))) 1 1
+    shares n t g i = share-upto (n - 1) (clamped t bilinear.plusZero (float n ⊖ one)) (omega (arith, g .most)) (side-upto n t g i)
 
 -- ---- THEOREM: the range of what `bilinear` answers
 pub in-range : (pic : List ℕ) (w h : ℕ) (xf yf v : Float) → Bytes pic → sampleOf pic w h xf yf ≡ sample.At v → Range v

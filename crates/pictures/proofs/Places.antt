@@ -15,7 +15,8 @@ use lib.Ieee.Fits.{down-pos}
 use lib.Ieee.Back.{round-whole}
 use Rattle.numbers.proofs.Values.{above-minus-one, below-top, cut}
 use Rattle.pictures.specs.declared.Place.{Place}
-use Rattle.pictures.specs.Bilinear.{_⊖_, float, one, clamped, placeOf, Readable}
+use Rattle.numbers.specs.Operators.{_⊖_, float}
+use Rattle.pictures.specs.Bilinear.{one, clamped, placeOf, Readable}
 use Rattle.pictures.specs.Bilinear as bilinear
 use Rattle.pictures.proofs.Shapes.{Side, side, whole, byte-in}
 use Rattle.pictures.proofs.Values.{sub-at, Upto, upto-of-value}
@@ -50,8 +51,8 @@ module _ (k : ℕ) (hi : Float) (v : HasValue hi false k 1) where
   either true x p = upto-of-value hi k 1 k 1 (zero-lt-suc 0) v (omega arith)
   either false x p = p
 
-  zero-first : (b : Bool) → Upto (cond b hi bilinear.zero) k 1
-  zero-first b = either b bilinear.zero (omega arith)
+  zero-first : (b : Bool) → Upto (cond b hi bilinear.plusZero) k 1
+  zero-first b = either b bilinear.plusZero (omega arith)
 
 -- what the test does not find above hi
 topped : (k : ℕ) (hi : Float) (m : ℕ) (e : ℤ) → HasValue hi false k 1 → Upto (cond (lt hi (fin false m e)) hi (fin false m e)) k 1
@@ -71,25 +72,25 @@ topped k (fin false i g) m e v = go (ltb (i * up g * down e) (m * up e * down g)
     go true h = le-of-eq (v .1)
     go false h = omega (arith, held (ltb-false (i * up g * down e) (m * up e * down g) h))
 
-pub clamped-upto : (k : ℕ) (t hi : Float) → isNan t ≡ false → HasValue hi false k 1 → Upto (clamped t bilinear.zero hi) k 1
+pub clamped-upto : (k : ℕ) (t hi : Float) → isNan t ≡ false → HasValue hi false k 1 → Upto (clamped t bilinear.plusZero hi) k 1
 unfolding clamped lt isNan
 clamped-upto k nan hi n v = absurd (true≢false n)
-clamped-upto k (inf true) hi n v = zero-first k hi v (lt hi bilinear.zero)
+clamped-upto k (inf true) hi n v = zero-first k hi v (lt hi bilinear.plusZero)
 clamped-upto k (inf false) nan n v = absurd v
 clamped-upto k (inf false) (inf s) n v = absurd v
-clamped-upto k (inf false) (fin s i g) n v = either k (fin s i g) v true bilinear.zero (omega arith)
+clamped-upto k (inf false) (fin s i g) n v = either k (fin s i g) v true bilinear.plusZero (omega arith)
 clamped-upto k (fin true m e) hi n v = go (ltb 0 (m * up e * 1 + 0 * 1 * down e)) refl
   where
     none : m * up e * 1 + 0 * 1 * down e ≤ 0 → m * up e ≡ 0
     none h = omega arith
 
-    go : (b : Bool) → ltb 0 (m * up e * 1 + 0 * 1 * down e) ≡ b → Upto (cond (lt hi (cond b bilinear.zero (fin true m e))) hi (cond b bilinear.zero (fin true m e))) k 1
-    go true h = zero-first k hi v (lt hi bilinear.zero)
+    go : (b : Bool) → ltb 0 (m * up e * 1 + 0 * 1 * down e) ≡ b → Upto (cond (lt hi (cond b bilinear.plusZero (fin true m e))) hi (cond b bilinear.plusZero (fin true m e))) k 1
+    go true h = zero-first k hi v (lt hi bilinear.plusZero)
     go false h = either k hi v (lt hi (fin true m e)) (fin true m e) (none (ltb-false 0 (m * up e * 1 + 0 * 1 * down e) h))
 clamped-upto k (fin false m e) hi n v = go (ltb (m * up e * 1) (0 * 1 * down e))
   where
-    go : (b : Bool) → Upto (cond (lt hi (cond b bilinear.zero (fin false m e))) hi (cond b bilinear.zero (fin false m e))) k 1
-    go true = zero-first k hi v (lt hi bilinear.zero)
+    go : (b : Bool) → Upto (cond (lt hi (cond b bilinear.plusZero (fin false m e))) hi (cond b bilinear.plusZero (fin false m e))) k 1
+    go true = zero-first k hi v (lt hi bilinear.plusZero)
     go false = topped k hi m e v
 
 -- ---- the whole part of a number from zero to k
@@ -125,7 +126,7 @@ whole-part k (fin false m e) h v = rw (whole-is k m e h v) (div-le-of-le-mul (do
 
 -- ---- a place on a side of n pixels
 
-pub side-upto : (n : ℕ) (t : Float) → Side n → isNan t ≡ false → Upto (clamped t bilinear.zero (float n ⊖ one)) (n - 1) 1
+pub side-upto : (n : ℕ) (t : Float) → Side n → isNan t ≡ false → Upto (clamped t bilinear.plusZero (float n ⊖ one)) (n - 1) 1
 side-upto n t g h = clamped-upto (n - 1) t (float n ⊖ one) h (last-val n g)
 
 pub record On (n : ℕ) (p : Place) : Type 0 where
@@ -135,7 +136,7 @@ pub record On (n : ℕ) (p : Place) : Type 0 where
 on-side : (n : ℕ) (t : Float) → Side n → isNan t ≡ false → On n (placeOf n t)
 unfolding placeOf
 on-side n t s h =
-    let c = clamped t bilinear.zero (float n ⊖ one) in
+    let c = clamped t bilinear.plusZero (float n ⊖ one) in
     record {
       first-in = omega (arith, s .least, whole-part (n - 1) c (omega (arith, s .most)) (side-upto n t s h));
       next-in = omega (arith, s .least, min-le-right (toUnsigned 64 c + 1) (n - 1));

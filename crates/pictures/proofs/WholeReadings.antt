@@ -20,14 +20,15 @@ use Rattle.pictures.specs.declared.Shape.the-variants as shape
 use Rattle.pictures.specs.declared.Level.the-variants as level
 use Rattle.pictures.specs.declared.Sample.the-variants as sample
 use Rattle.pictures.specs.Picture.{Bytes, shapeOf, levelIn, pixelOf}
-use Rattle.pictures.specs.Bilinear.{_⊕_, _⊖_, _⊗_, float, one, zero, clamped, placeOf, blended, valueAt, valueIn, sampleOf, WholeAt, plain, minus-zero}
+use Rattle.numbers.specs.Operators.{_⊕_, _⊖_, _⊗_, float}
+use Rattle.pictures.specs.Bilinear.{one, plusZero, clamped, placeOf, blended, valueAt, valueIn, sampleOf, WholeAt, plain, minus-zero}
 use Rattle.pictures.proofs.Shapes.{Side, side, whole, level-small}
 use Rattle.pictures.proofs.Values.{round-none, mul-at, add-at, sub-at, lt-at}
 use Rattle.pictures.proofs.Places.{counted, float-val, one-val, last-val}
 
 -- ---- whole numbers up to 2 ^ 53, as f64
 
-zero-val : HasValue zero false 0 1
+zero-val : HasValue plusZero false 0 1
 zero-val = (refl, refl)
 
 -- zero with either sign
@@ -42,7 +43,7 @@ module _ (n : ℕ) (h : n ≤ 2 ^ 53) where
   times-one : float n ⊗ one ≡ float n
   times-one = mul-at binary64 n 1 1 1 (zero-lt-suc 0) (zero-lt-suc 0) (float n) one (float-val n h) one-val ∙ ap (λ (k : ℕ). round binary64 false k 1) (mul-one n) ∙ sym float-is
 
-  minus-itself : float n ⊖ float n ≡ zero
+  minus-itself : float n ⊖ float n ≡ plusZero
   minus-itself =
       sub-at binary64 n 1 n 1 (zero-lt-suc 0) (zero-lt-suc 0) (float n) (float n) (float-val n h) (float-val n h) (le-refl (n * 1))
       ∙ round-none false (n * 1 - n * 1) 1 (zero-lt-suc 0) (sub-self (n * 1))
@@ -62,10 +63,10 @@ valued-times (fin false m e) a c s v =
 
 valued-plus : (n : ℕ) (s : Bool) → n ≤ 2 ^ 53 → float n ⊕ zeroed s ≡ float n
 valued-plus n false h =
-    add-at binary64 n 1 0 1 (zero-lt-suc 0) (zero-lt-suc 0) (float n) zero (float-val n h) zero-val ∙ ap (λ (k : ℕ). round binary64 false k 1) (omega arith) ∙ sym (float-is n h)
+    add-at binary64 n 1 0 1 (zero-lt-suc 0) (zero-lt-suc 0) (float n) plusZero (float-val n h) zero-val ∙ ap (λ (k : ℕ). round binary64 false k 1) (omega arith) ∙ sym (float-is n h)
 valued-plus n true h =
-    let e : float n ⊕ zeroed true ≡ float n ⊖ zero = unfold ieee.sub in unfold ieee.neg in refl in
-    e ∙ sub-at binary64 n 1 0 1 (zero-lt-suc 0) (zero-lt-suc 0) (float n) zero (float-val n h) zero-val (omega arith) ∙ ap (λ (k : ℕ). round binary64 false k 1) (omega arith) ∙ sym (float-is n h)
+    let e : float n ⊕ zeroed true ≡ float n ⊖ plusZero = unfold ieee.sub in unfold ieee.neg in refl in
+    e ∙ sub-at binary64 n 1 0 1 (zero-lt-suc 0) (zero-lt-suc 0) (float n) plusZero (float-val n h) zero-val (omega arith) ∙ ap (λ (k : ℕ). round binary64 false k 1) (omega arith) ∙ sym (float-is n h)
 
 -- with no share of the next pixels, the first one's level
 corner : (a b c d : ℕ) (s t : Bool) → a ≤ 2 ^ 53 → b ≤ 2 ^ 53 → c ≤ 2 ^ 53 → d ≤ 2 ^ 53 → blended (float a) (float b) (float c) (float d) (zeroed s) (zeroed t) ≡ float a
@@ -110,19 +111,19 @@ module _ (n x : ℕ) (g : Side n) (i : x < n) where
   small : x ≤ 2 ^ 53
   small = omega (arith, g .most)
 
-  whole-clamped : clamped (float x) zero (float n ⊖ one) ≡ float x
+  whole-clamped : clamped (float x) plusZero (float n ⊖ one) ≡ float x
   unfolding clamped
   whole-clamped =
       rw (
-        lt-at binary64 x 1 0 1 (zero-lt-suc 0) (zero-lt-suc 0) (float x) zero (float-val x small) zero-val (omega arith),
+        lt-at binary64 x 1 0 1 (zero-lt-suc 0) (zero-lt-suc 0) (float x) plusZero (float-val x small) zero-val (omega arith),
         lt-at binary64 (n - 1) 1 x 1 (zero-lt-suc 0) (zero-lt-suc 0) (float n ⊖ one) (float x) (last-val n g) (float-val x small) (omega arith),
       )
 
-  plain-place : placeOf n (float x) ≡ record { first = x; next = min (x + 1) (n - 1); share = zero }
+  plain-place : placeOf n (float x) ≡ record { first = x; next = min (x + 1) (n - 1); share = plusZero }
   unfolding placeOf
   plain-place = rw (whole-clamped, unsigned-back binary64 64 x (counted x small) (omega (arith, g .most)) .1, minus-itself x small)
 
-minus-clamped : (hi : Float) (k : ℕ) → HasValue hi false k 1 → clamped (zeroed true) zero hi ≡ zeroed true
+minus-clamped : (hi : Float) (k : ℕ) → HasValue hi false k 1 → clamped (zeroed true) plusZero hi ≡ zeroed true
 unfolding clamped lt
 minus-clamped nan k v = absurd v
 minus-clamped (inf s) k v = absurd v

@@ -6,9 +6,9 @@ use mathlib.Core.Path.{_≡_}
 use lib.Dec.{T}
 use lib.IntN.{pos, negsuc}
 use lib.ListN.{length}
-use lib.Ieee.{Float, fin, binary64, lt, le, ofInt, toUnsigned, isNan}
-use lib.Ieee as ieee
+use lib.Ieee.{Float, fin, lt, le, toUnsigned, isNan}
 use Rattle.lists.specs.Rows.{levelAt}
+use Rattle.numbers.specs.Operators.{_⊕_, _⊖_, _⊗_, float}
 use Rattle.pictures.specs.declared.Shape.{Shape}
 use Rattle.pictures.specs.declared.Shape.the-variants as shape
 use Rattle.pictures.specs.declared.Sample.{Sample}
@@ -16,26 +16,9 @@ use Rattle.pictures.specs.declared.Sample.the-variants as sample
 use Rattle.pictures.specs.declared.Place.{Place}
 use Rattle.pictures.specs.Picture.{shapeOf}
 
--- f64's operators, which bind as Rust's do
-infixl 20 _⊕_
-infixl 20 _⊖_
-infixl 30 _⊗_
-abbrev pub _⊕_ : Float → Float → Float
-x ⊕ y = ieee.add binary64 x y
-
-abbrev pub _⊖_ : Float → Float → Float
-x ⊖ y = ieee.sub binary64 x y
-
-abbrev pub _⊗_ : Float → Float → Float
-x ⊗ y = ieee.mul binary64 x y
-
--- a whole number as f64
-abbrev pub float : ℕ → Float
-float n = ofInt binary64 (pos n)
-
 -- 0.0 and 1.0
-abbrev pub zero : Float
-zero = fin false 0 (pos 0)
+abbrev pub plusZero : Float
+plusZero = fin false 0 (pos 0)
 
 abbrev pub one : Float
 one = fin false 1 (pos 0)
@@ -47,7 +30,7 @@ clamped x low high = let y = cond (lt x low) low x in cond (lt high y) high y
 -- along a side of n pixels: the clamped coordinate's whole part, the next pixel but not past the last, and the next one's share
 unfoldable pub placeOf : ℕ → Float → Place
 placeOf n t =
-    let c = clamped t zero (float n ⊖ one) in
+    let c = clamped t plusZero (float n ⊖ one) in
     let first = toUnsigned 64 c in
     record { first = first; next = min (first + 1) (n - 1); share = c ⊖ float first }
 
@@ -93,5 +76,5 @@ most = fin false (255 * 2 ^ 31 + 1) (negsuc 30)
 
 -- the range of a reading: rounding can carry it a little above 255
 pub record Range (v : Float) : Type 0 where
-  pub low : T (le zero v)
+  pub low : T (le plusZero v)
   pub high : T (le v most)

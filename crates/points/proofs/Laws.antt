@@ -14,8 +14,9 @@ use Rattle.options.specs.Limits.{sideMost}
 use Rattle.points.specs.declared.Intrinsics.{Intrinsics}
 use Rattle.points.specs.declared.PointRecord.{PointRecord}
 use Rattle.points.specs.declared.Point3.the-variants.{At}
+use Rattle.numbers.specs.Operators.{float}
 use Rattle.points.specs.Point.{isPositive, pointOf}
-use Rattle.points.specs.Records.{pointsIn, float, recordOf, recordsFrom}
+use Rattle.points.specs.Records.{pointsIn, recordOf, recordsFrom}
 use Rattle.points.proofs.Facts.{small-float}
 
 -- a whole number of a map's size is a finite f64

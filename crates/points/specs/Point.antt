@@ -2,24 +2,11 @@
 use mathlib.Core.Bool.{Bool, false, _&&_, cond}
 use lib.IntN.{pos}
 use lib.Ieee.{Float, fin, binary64, lt, ofBits}
-use lib.Ieee as ieee
 use lib.Ieee.Scale.{finite}
+use Rattle.numbers.specs.Operators.{_⊖_, _⊗_, _⊘_}
 use Rattle.points.specs.declared.Intrinsics.{Intrinsics}
 use Rattle.points.specs.declared.Point3.{Point3}
 use Rattle.points.specs.declared.Point3.the-variants as point3
-
--- f64's operators
-infixl 20 _⊖_
-infixl 30 _⊗_
-infixl 30 _⊘_
-abbrev pub _⊖_ : Float → Float → Float
-x ⊖ y = ieee.sub binary64 x y
-
-abbrev pub _⊗_ : Float → Float → Float
-x ⊗ y = ieee.mul binary64 x y
-
-abbrev pub _⊘_ : Float → Float → Float
-x ⊘ y = ieee.div binary64 x y
 
 -- z = (fx · baseline) / d
 abbrev pub depthOf : Intrinsics → Float → Float

@@ -4,8 +4,8 @@ use mathlib.Core.Bool.{cond}
 use mathlib.Core.List.{List, [], _∷_, _++_}
 use lib.ListN.{length, drop}
 use lib.Dec.{leb}
-use lib.IntN.{pos}
-use lib.Ieee.{Float, ofInt, binary64}
+use lib.Ieee.{Float}
+use Rattle.numbers.specs.Operators.{float}
 use Rattle.maps.specs.Map.{goodSize}
 use Rattle.points.specs.declared.Intrinsics.{Intrinsics}
 use Rattle.points.specs.declared.PointRecord.{PointRecord}
@@ -17,10 +17,6 @@ use Rattle.points.specs.Point.{depthOf, acrossOf, downOf, isPositive, go
 unfoldable pub pointsIn : List Float → ℕ
 pointsIn [] = 0
 pointsIn (c ∷ cs) = cond (isPositive c) 1 0 + pointsIn cs
-
--- a whole number as f64
-abbrev pub float : ℕ → Float
-float n = ofInt binary64 (pos n)
 
 -- the record of the cell at i of a map w wide, the number d: the point of its pixel (i % w, i / w), the pixel, and the disparity
 unfoldable pub recordOf : ℕ → Intrinsics → ℕ → Float → PointRecord

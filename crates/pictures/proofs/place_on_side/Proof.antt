@@ -8,7 +8,8 @@ use borrow.Author.Needs.{needs}
 use lib.Dec.{lit≤}
 use lib.Ieee.{ofBits}
 use Rattle.options.specs.Limits.{sideMost}
-use Rattle.pictures.specs.Bilinear.{_⊖_, float, one, zero, clamped, placeOf}
+use Rattle.numbers.specs.Operators.{_⊖_, float}
+use Rattle.pictures.specs.Bilinear.{one, plusZero, clamped, placeOf}
 use Rattle.pictures.proofs.Shapes.{Side, side}
 use Rattle.pictures.proofs.Values.{Upto}
 use Rattle.pictures.proofs.Places.{counted, side-upto, upto-low, upto-high, whole-part}
@@ -26,7 +27,7 @@ clamp-requires : tie.Need-clamp-requires
 clamp-requires c κs = search needs
 
 -- the clamped coordinate, as the definition has it
-clamped-is : (c : tie.After-clamp) → c .clamp .result ≡ clamped (c .before .before .args .t) zero (float (c .before .before .args .n) ⊖ one)
+clamped-is : (c : tie.After-clamp) → c .clamp .result ≡ clamped (c .before .before .args .t) plusZero (float (c .before .before .args .n) ⊖ one)
 unfolding ofBits
 clamped-is c = c .clamp .ensures
 
