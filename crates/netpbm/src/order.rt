@@ -1,4 +1,5 @@
 // The four bytes of a cell, in either order.
+use maps::Cell;
 ghost use mathlib.Core.Path.{_≡_};
 ghost use mathlib.Core.List.{[], _∷_};
 ghost use Prim.Native.Nat.{_+_, _≤_};
@@ -76,7 +77,7 @@ fn inward_cell(p: u32) -> f32
 {
     // the exponent's field of an infinity and of a NaN
     if (p >> 23) % 256 == 255 {
-        return 0.0 / 0.0;
+        return Cell::Mark.stored();
     }
     f32::from_bits(p)
 }

@@ -1,5 +1,6 @@
 // The kinds of a sheet, and the number that stands for a cell in each.
 use crate::limits::WHOLE_MOST;
+use maps::Cell;
 use numbers::plain::is_finite;
 use numbers::plain::magnitude;
 ghost use mathlib.Core.Path.{_≡_};
@@ -133,7 +134,7 @@ pub fn cell_of(kind: Kind, code: u64) -> Stored
     ensures { λ r. ⌜ r ≡ storedAs (cellOf kind code) ⌝ }
 {
     if code == 0 {
-        return Stored::Cell(0.0 / 0.0);
+        return Stored::Cell(Cell::Mark.stored());
     }
     match kind {
         Kind::Whole => whole_cell(code - 1),

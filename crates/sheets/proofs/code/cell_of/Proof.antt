@@ -2,7 +2,6 @@
 use mathlib.Core.Path.{_≡_}
 use Prim.Native.Nat.{ℕ, suc, _-_}
 use native.Mathlib.Omega.{arith}
-use lib.Ieee.{div, ofBits}
 use borrow.Author.Needs.{needs}
 use Rattle.sheets.specs.Code.{cellOf}
 use Rattle.sheets.proofs.code.cell_of.Statement.{statement}
@@ -12,9 +11,12 @@ use Rattle.sheets.proofs.code.cell_of.Tie as tie
 one-back : (n : ℕ) → (n ≡ 0 → ⊥) → suc (n - 1) ≡ n
 one-back n h = omega arith
 
+stored-requires : tie.Need-stored-requires
+stored-requires c κs = search needs
+
 returns : tie.Need-returns
-unfolding cellOf div ofBits
-returns c = rw (c .if1 .taken)
+unfolding cellOf
+returns c = rw (c .before .if1 .taken, c .stored .ensures)
 
 enum-told : tie.Need-enum-told
 enum-told c = search needs
@@ -48,6 +50,7 @@ pub cell-of-spec : {M : Type 1} → statement M
 cell-of-spec =
     tie.close
     (tie.spec
+    stored-requires
     returns
     enum-told
     sub-whole-cell
