@@ -5,7 +5,8 @@ use volume::heap::heap_shape;
 use volume::heap::heap_volume;
 use volume::site::Site;
 ghost use Rattle.volume.specs.Outcome.{shapeOf};
-ghost use Rattle.plombrisa.specs.Answers.{ShapeTold, figuresIn, VolumeTold};
+ghost use Rattle.volume.specs.Given.{shapeGiven};
+ghost use Rattle.plombrisa.specs.Answers.{Told, gridIn, figuresIn, VolumeTold};
 ghost use Rattle.plombrisa.specs.Options.{siteOf};
 
 // The cells of a row and the rows of a site's grid.
@@ -20,7 +21,7 @@ pub extern "C" fn plombrisa_heap_shape(
     columns: &mut u64,
     rows: &mut u64,
 ) -> u32
-    ensures { λ n. ⌜ ShapeTold n (shapeOf (siteOf left right top bottom cell floor)) (now (columns .entry)) (now (columns .exit)) (now (rows .entry)) (now (rows .exit)) ⌝ }
+    ensures { λ n. ⌜ Told n (shapeGiven (shapeOf (siteOf left right top bottom cell floor))) (gridIn (now (columns .entry)) (now (rows .entry))) (gridIn (now (columns .exit)) (now (rows .exit))) ⌝ }
 {
     let site = Site {
         left,

@@ -1,7 +1,7 @@
 // A map's figures, for hosts: 0, or the number of the refusal, which leaves what is lent as it was.
-ghost use mathlib.Core.Path.{_≡_};
 ghost use Rattle.maps.specs.Map.{validCount, validRange, coverOf};
-ghost use Rattle.plombrisa.specs.Answers.{numberRefusal, numberAfter, RangeTold};
+ghost use Rattle.maps.specs.Given.{numberGiven, extentGiven};
+ghost use Rattle.plombrisa.specs.Answers.{Told, rangeIn, RangeTold};
 use maps::Extent;
 use maps::Number;
 use maps::count_valid;
@@ -10,7 +10,7 @@ use maps::range_valid;
 
 // What an answer says, with its number of cells or its cover in the lent number.
 fn tell(answer: Number, number: &mut u64) -> u32
-    ensures { λ n. ⌜ (n ≡ numberRefusal answer) × (now (number .exit) ≡ numberAfter answer (now (number .entry))) ⌝ }
+    ensures { λ n. ⌜ Told n (numberGiven answer) (now (number .entry)) (now (number .exit)) ⌝ }
 {
     match answer {
         Number::Refused(n) => n as u32,
@@ -29,7 +29,7 @@ pub extern "C" fn plombrisa_valid_count(
     height: usize,
     count: &mut u64,
 ) -> u32
-    ensures { λ n. ⌜ (n ≡ numberRefusal (validCount width height (now (cells .entry)))) × (now (count .exit) ≡ numberAfter (validCount width height (now (cells .entry))) (now (count .entry))) ⌝ }
+    ensures { λ n. ⌜ Told n (numberGiven (validCount width height (now (cells .entry)))) (now (count .entry)) (now (count .exit)) ⌝ }
 {
     tell(count_valid(width, height, cells), count)
 }
@@ -42,7 +42,7 @@ pub extern "C" fn plombrisa_cover(
     height: usize,
     permille: &mut u64,
 ) -> u32
-    ensures { λ n. ⌜ (n ≡ numberRefusal (coverOf width height (now (cells .entry)))) × (now (permille .exit) ≡ numberAfter (coverOf width height (now (cells .entry))) (now (permille .entry))) ⌝ }
+    ensures { λ n. ⌜ Told n (numberGiven (coverOf width height (now (cells .entry)))) (now (permille .entry)) (now (permille .exit)) ⌝ }
 {
     tell(cover(width, height, cells), permille)
 }
@@ -57,7 +57,7 @@ pub extern "C" fn plombrisa_valid_range(
     least: &mut f32,
     greatest: &mut f32,
 ) -> u32
-    ensures { λ n. ⌜ RangeTold n (validRange width height (now (cells .entry))) (now (some .entry)) (now (some .exit)) (now (least .entry)) (now (least .exit)) (now (greatest .entry)) (now (greatest .exit)) ⌝ }
+    ensures { λ n. ⌜ RangeTold n (extentGiven (validRange width height (now (cells .entry)))) (rangeIn (now (some .entry)) (now (least .entry)) (now (greatest .entry))) (rangeIn (now (some .exit)) (now (least .exit)) (now (greatest .exit))) ⌝ }
 {
     match range_valid(width, height, cells) {
         Extent::Refused(n) => n as u32,

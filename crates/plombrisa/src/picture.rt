@@ -1,8 +1,8 @@
 // One picture read at a pixel and between pixels, for hosts: 0, or the number of the refusal, which leaves what is lent as it was.
-ghost use mathlib.Core.Path.{_≡_};
 ghost use Rattle.pictures.specs.Picture.{pixelOf};
 ghost use Rattle.pictures.specs.Bilinear.{sampleOf};
-ghost use Rattle.plombrisa.specs.Answers.{levelRefusal, levelAfter, sampleRefusal, sampleAfter};
+ghost use Rattle.pictures.specs.Given.{levelGiven, sampleGiven};
+ghost use Rattle.plombrisa.specs.Answers.{Told};
 use pictures::Level;
 use pictures::Sample;
 use pictures::bilinear;
@@ -18,7 +18,7 @@ pub extern "C" fn plombrisa_pixel(
     y: usize,
     level: &mut u8,
 ) -> u32
-    ensures { λ n. ⌜ (n ≡ levelRefusal (pixelOf (now (pic .entry)) width height x y)) × (now (level .exit) ≡ levelAfter (pixelOf (now (pic .entry)) width height x y) (now (level .entry))) ⌝ }
+    ensures { λ n. ⌜ Told n (levelGiven (pixelOf (now (pic .entry)) width height x y)) (now (level .entry)) (now (level .exit)) ⌝ }
 {
     match pixel(pic, width, height, x, y) {
         Level::Refused(n) => n as u32,
@@ -39,7 +39,7 @@ pub extern "C" fn plombrisa_bilinear(
     y: f64,
     value: &mut f64,
 ) -> u32
-    ensures { λ n. ⌜ (n ≡ sampleRefusal (sampleOf (now (pic .entry)) width height x y)) × (now (value .exit) ≡ sampleAfter (sampleOf (now (pic .entry)) width height x y) (now (value .entry))) ⌝ }
+    ensures { λ n. ⌜ Told n (sampleGiven (sampleOf (now (pic .entry)) width height x y)) (now (value .entry)) (now (value .exit)) ⌝ }
 {
     match bilinear(pic, width, height, x, y) {
         Sample::Refused(n) => n as u32,

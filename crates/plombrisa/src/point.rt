@@ -1,7 +1,7 @@
 // The point of a pixel and a disparity, and the list of a map's points, for hosts.
-ghost use mathlib.Core.Path.{_≡_};
 ghost use Rattle.points.specs.Point.{pointOf};
-ghost use Rattle.plombrisa.specs.Answers.{PointTold, filledRefusal, filledAfter, PointsTold};
+ghost use Rattle.points.specs.Given.{pointGiven, filledGiven};
+ghost use Rattle.plombrisa.specs.Answers.{Told, pointIn, PointTold, PointsTold};
 ghost use Rattle.plombrisa.specs.Options.{intrinsicsOf};
 use points::Filled;
 use points::Intrinsics;
@@ -25,7 +25,7 @@ pub extern "C" fn plombrisa_rectified_point(
     py: &mut f64,
     pz: &mut f64,
 ) -> bool
-    ensures { λ r. ⌜ PointTold r (pointOf (intrinsicsOf fx fy cx cy baseline) x y disparity) (now (px .entry)) (now (px .exit)) (now (py .entry)) (now (py .exit)) (now (pz .entry)) (now (pz .exit)) ⌝ }
+    ensures { λ r. ⌜ PointTold r (pointGiven (pointOf (intrinsicsOf fx fy cx cy baseline) x y disparity)) (pointIn (now (px .entry)) (now (py .entry)) (now (pz .entry))) (pointIn (now (px .exit)) (now (py .exit)) (now (pz .exit))) ⌝ }
 {
     let k = Intrinsics {
         fx,
@@ -47,7 +47,7 @@ pub extern "C" fn plombrisa_rectified_point(
 
 // What an answer says, with the number of records in the lent number.
 fn tell_filled(answer: Filled, count: &mut u64) -> u32
-    ensures { λ n. ⌜ (n ≡ filledRefusal answer) × (now (count .exit) ≡ filledAfter answer (now (count .entry))) ⌝ }
+    ensures { λ n. ⌜ Told n (filledGiven answer) (now (count .entry)) (now (count .exit)) ⌝ }
 {
     match answer {
         Filled::Refused(n) => n as u32,

@@ -1,10 +1,11 @@
 // A map's sheet written and read, for hosts: 0, or the number of the refusal, which leaves what is lent as it was. A kind is given by
 // its number.
-ghost use mathlib.Core.Path.{_≡_};
 ghost use Rattle.sheets.specs.Sheet.{sheetOf, readSheet};
 ghost use Rattle.lists.specs.Writes.{byteCount};
+ghost use Rattle.lists.specs.Given.{writtenGiven};
 ghost use Rattle.sheets.specs.Outcome.{sizeSaid};
-ghost use Rattle.plombrisa.specs.Answers.{writtenRefusal, writtenAfter, WriteTold, SaidTold, ReadTold};
+ghost use Rattle.sheets.specs.Given.{saidGiven};
+ghost use Rattle.plombrisa.specs.Answers.{Told, sheetIn, WriteTold, ReadTold};
 use crate::told::tell_bytes;
 use sheets::reading::Said;
 use sheets::reading::read_sheet;
@@ -21,7 +22,7 @@ pub extern "C" fn plombrisa_sheet_length(
     kind: u64,
     count: &mut u64,
 ) -> u32
-    ensures { λ n. ⌜ (n ≡ writtenRefusal (byteCount (sheetOf kind width height (now (cells .entry))))) × (now (count .exit) ≡ writtenAfter (byteCount (sheetOf kind width height (now (cells .entry)))) (now (count .entry))) ⌝ }
+    ensures { λ n. ⌜ Told n (writtenGiven (byteCount (sheetOf kind width height (now (cells .entry))))) (now (count .entry)) (now (count .exit)) ⌝ }
 {
     tell_bytes(sheet_length(cells, width, height, kind), count)
 }
@@ -43,7 +44,7 @@ pub extern "C" fn plombrisa_write_sheet(
 
 // What an answer says, with kind, width and height in the lent numbers.
 fn tell_said(answer: Said, kind: &mut u64, width: &mut u64, height: &mut u64) -> u32
-    ensures { λ n. ⌜ SaidTold n answer (now (kind .entry)) (now (kind .exit)) (now (width .entry)) (now (width .exit)) (now (height .entry)) (now (height .exit)) ⌝ }
+    ensures { λ n. ⌜ Told n (saidGiven answer) (sheetIn (now (kind .entry)) (now (width .entry)) (now (height .entry))) (sheetIn (now (kind .exit)) (now (width .exit)) (now (height .exit))) ⌝ }
 {
     match answer {
         Said::Refused(n) => n as u32,
@@ -64,7 +65,7 @@ pub extern "C" fn plombrisa_sheet_size(
     width: &mut u64,
     height: &mut u64,
 ) -> u32
-    ensures { λ n. ⌜ SaidTold n (sizeSaid (readSheet (now (sheet .entry)))) (now (kind .entry)) (now (kind .exit)) (now (width .entry)) (now (width .exit)) (now (height .entry)) (now (height .exit)) ⌝ }
+    ensures { λ n. ⌜ Told n (saidGiven (sizeSaid (readSheet (now (sheet .entry))))) (sheetIn (now (kind .entry)) (now (width .entry)) (now (height .entry))) (sheetIn (now (kind .exit)) (now (width .exit)) (now (height .exit))) ⌝ }
 {
     tell_said(sheet_size(sheet), kind, width, height)
 }
@@ -78,7 +79,7 @@ pub extern "C" fn plombrisa_read_sheet(
     width: &mut u64,
     height: &mut u64,
 ) -> u32
-    ensures { λ n. ⌜ ReadTold n (readSheet (now (sheet .entry))) (now (out .entry)) (now (out .exit)) (now (kind .entry)) (now (kind .exit)) (now (width .entry)) (now (width .exit)) (now (height .entry)) (now (height .exit)) ⌝ }
+    ensures { λ n. ⌜ ReadTold n (readSheet (now (sheet .entry))) (now (out .entry)) (now (out .exit)) (sheetIn (now (kind .entry)) (now (width .entry)) (now (height .entry))) (sheetIn (now (kind .exit)) (now (width .exit)) (now (height .exit))) ⌝ }
 {
     tell_said(read_sheet(sheet, out), kind, width, height)
 }

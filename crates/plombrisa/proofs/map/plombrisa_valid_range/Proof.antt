@@ -20,13 +20,13 @@ enum-known-low : tie.Need-enum-known-low
 enum-known-low c = search needs
 
 returns : tie.Need-returns
-returns c = rw (sym (c .before .before .before .range-valid .ensures) ∙ c .before .n .given .1) record { answer = refl; somes = refl; leasts = refl; greatests = refl }
+returns c = rw (sym (c .before .before .before .range-valid .ensures) ∙ c .before .n .given .1) record { number = refl; value = refl }
 
 returns-2 : tie.Need-returns-2
-returns-2 c = rw (sym (c .before .before .range-valid .ensures) ∙ c .enum-told .given .1) record { answer = refl; somes = refl; leasts = refl; greatests = refl }
+returns-2 c = rw (sym (c .before .before .range-valid .ensures) ∙ c .enum-told .given .1) record { number = refl; value = refl }
 
 returns-3 : tie.Need-returns-3
-returns-3 c = rw (sym (c .before .before .before .range-valid .ensures) ∙ c .before .low .given .1) record { answer = refl; somes = refl; leasts = refl; greatests = refl }
+returns-3 c = rw (sym (c .before .before .before .range-valid .ensures) ∙ c .before .low .given .1) record { number = refl; value = refl }
 
 pub plombrisa-valid-range-spec : {M : Type 1} → statement M
 plombrisa-valid-range-spec =

@@ -17,10 +17,10 @@ enum-known-v : tie.Need-enum-known-v
 enum-known-v c = search needs
 
 returns : tie.Need-returns
-returns c = rw (sym (c .before .before .before .bilinear .ensures) ∙ c .before .n .given .1) (refl, refl)
+returns c = rw (sym (c .before .before .before .bilinear .ensures) ∙ c .before .n .given .1) record { number = refl; value = refl }
 
 returns-2 : tie.Need-returns-2
-returns-2 c = rw (sym (c .before .before .before .bilinear .ensures) ∙ c .before .v .given .1) (refl, refl)
+returns-2 c = rw (sym (c .before .before .before .bilinear .ensures) ∙ c .before .v .given .1) record { number = refl; value = refl }
 
 pub plombrisa-bilinear-spec : {M : Type 1} → statement M
 plombrisa-bilinear-spec =

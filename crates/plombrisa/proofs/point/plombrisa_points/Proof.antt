@@ -1,7 +1,7 @@
 -- `plombrisa::point::plombrisa_points` meets its contract: a walk of its MIR, by hand. The record of intrinsics is made, the list and the cells go on to `points`, and its answer and the lent count to `tell_filled`.
 -- Each borrow is given up for good to the callee that takes it, at its own lifetime, share and name, and what the callee says of its last value is what is said at exit. All that the proof knows of the two is that each meets its contract.
 -- Assumes nothing.
-use mathlib.Core.Path.{_≡_, refl, ap, _∙_}
+use mathlib.Core.Path.{_≡_, refl}
 use Prim.Native.Nat.{ℕ, _<_, _^_}
 use mathlib.Core.List.{List, [], _∷_}
 use lib.ListN.{length}
@@ -54,7 +54,8 @@ use Rattle.points.proofs.points as points
 use Rattle.points.proofs.points.Symbol as points-def
 use Rattle.points.proofs.points.Symbol.{name as #points}
 use Rattle.points.proofs.points.Met as points-thm
-use Rattle.plombrisa.specs.Answers.{filledRefusal, filledAfter, PointsTold}
+use Rattle.points.specs.Given.{filledGiven}
+use Rattle.plombrisa.specs.Answers.{Told, PointsTold}
 use Rattle.plombrisa.specs.Options.{intrinsicsOf}
 use Rattle.plombrisa.proofs.point.tell_filled as tell
 use Rattle.plombrisa.proofs.point.tell_filled.Symbol as tell-def
@@ -174,11 +175,11 @@ module _ {M : Type 1} (𝓤 : URA M) (H : Heap 𝓤) (A : Atoms 𝓤) (W : Given
       qed W (Tok′ ∷ ‵ (F.the-row .own r (u ∷ [])) ∷ ‵ Count ∷ []) ∵ nothing ! $ move ! (3 ∷ 0 ∷ []) $ fjoin ! $ move ! (2 ∷ 0 ∷ []) $ fjoin ! $ move ! (1 ∷ 0 ∷ []) $ join ! $ frame ! $ done !
 
   abbrev TellSays : Filled → ℕ → ℕ → Type 0
-  TellSays r m c = (m ≡ filledRefusal r) × (c ≡ filledAfter r (now n))
+  TellSays r m c = Told m (filledGiven r) (now n) c
 
   -- ---- the exit, where the list is zs and the count is c
   told : (r : Filled) (m c : ℕ) (zs : List PointRecord) → PointsSays r zs → TellSays r m c → PointsTold m w h (now s) k (now x) zs (now n) c
-  told r m c zs e t = record { answer = t .0 ∙ ap filledRefusal (e .0); lists = e .1; counts = t .1 ∙ ap (λ (f : Filled). filledAfter f (now n)) (e .0) }
+  told r m c zs e t = record { told = rw (e .0) at t; lists = e .1 }
 
   exits : (m : ℕ) (v : Val) (zs : List PointRecord) (c : ℕ) → PointsTold m w h (now s) k (now x) zs (now n) c → length zs ≡ length (now x)
       → ent 𝓤 (⋆ 𝓤 H A (Tok ∷ Tok′ ∷ ‵ (finally R.the-row (name x) zs) ∷ ‵ (fres (name n) (u64 .coded .code c)) ∷ ‵ (u32 .own m (v ∷ [])) ∷ [])) (Post v)

@@ -14,10 +14,10 @@ enum-known-u : tie.Need-enum-known-u
 enum-known-u c = search needs
 
 returns : tie.Need-returns
-returns c = rw (sym (c .before .before .rectified-point .ensures) ∙ c .enum-told .given .1) record { answer = refl; xs = refl; ys = refl; zs = refl }
+returns c = rw (sym (c .before .before .rectified-point .ensures) ∙ c .enum-told .given .1) record { answer = refl; value = refl }
 
 returns-2 : tie.Need-returns-2
-returns-2 c = rw (sym (c .before .before .before .rectified-point .ensures) ∙ c .before .u .given .1) record { answer = refl; xs = refl; ys = refl; zs = refl }
+returns-2 c = rw (sym (c .before .before .before .rectified-point .ensures) ∙ c .before .u .given .1) record { answer = refl; value = refl }
 
 pub plombrisa-rectified-point-spec : {M : Type 1} → statement M
 plombrisa-rectified-point-spec =

@@ -15,8 +15,7 @@ same-length c = search needs
 returns : tie.Need-returns
 returns c =
     let wrote = c .before .before .before .before .write-sheet .ensures in
-    let told = rw (wrote .answers) at (c .tell-bytes .ensures) in
-    record { answer = told .0; outs = wrote .outs; counts = told .1 }
+    record { told = rw (wrote .answers) at (c .tell-bytes .ensures); outs = wrote .outs }
 
 pub plombrisa-write-sheet-spec : {M : Type 1} → statement M
 plombrisa-write-sheet-spec =

@@ -17,10 +17,10 @@ number-requires : tie.Need-number-requires
 number-requires c κs = search needs
 
 returns : tie.Need-returns
-returns c = search needs
+returns c = rw (c .before .answer .given .1) record { number = refl; value = refl }
 
 returns-2 : tie.Need-returns-2
-returns-2 c = rw (c .before .before .answer2 .given .1) record { answer = refl; kinds = c .number .ensures; widths = refl; heights = refl }
+returns-2 c = rw (c .before .before .answer2 .given .1) record { number = refl; value = rw (c .number .ensures) }
 
 pub tell-said-spec : {M : Type 1} → statement M
 tell-said-spec =

@@ -14,10 +14,10 @@ enum-known-answer-2 : tie.Need-enum-known-answer-2
 enum-known-answer-2 c = search needs
 
 returns : tie.Need-returns
-returns c = rw (c .before .answer .given .1) record { answer = refl; figures = refl }
+returns c = rw (c .before .answer .given .1) record { number = refl; value = refl }
 
 returns-2 : tie.Need-returns-2
-returns-2 c = rw (c .before .answer2 .given .1) record { answer = refl; figures = refl }
+returns-2 c = rw (c .before .answer2 .given .1) record { number = refl; value = refl }
 
 pub tell-heap-spec : {M : Type 1} → statement M
 tell-heap-spec =
