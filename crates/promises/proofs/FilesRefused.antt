@@ -24,9 +24,11 @@ files-reached = record {
   pgm-44-over = refl;
   pgm-45 = refl;
   pgm-is = refl;
+  pgm-read = refl;
   write-23 = refl;
   write-45 = refl;
   write-is = refl;
+  written = refl;
   pfm-41 = refl;
   pfm-41-scale = refl;
   pfm-43 = refl;
@@ -34,4 +36,5 @@ files-reached = record {
   pfm-44-over = refl;
   pfm-45 = refl;
   pfm-is = refl;
+  pfm-read = refl;
 }

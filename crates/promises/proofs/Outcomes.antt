@@ -1,6 +1,6 @@
--- OUTCOMES ARE DETERMINED: for every public call any two outcomes that its statement allows are equal. Each theorem has its call's name. Assumes nothing.
+-- OUTCOMES ARE DETERMINED: for every public call any two outcomes that its statement allows are equal; where the answer is an enum, so are the number and the values that it gives back. Each theorem has its call's name. Assumes nothing.
 use Prim.Native.Nat.{ℕ}
-use mathlib.Core.Path.{_≡_, sym, _∙_}
+use mathlib.Core.Path.{_≡_, sym, ap, _∙_}
 use mathlib.Core.List.{List}
 use lib.ListN.{length}
 use lib.Ieee.{Float, binary32, binary64}
@@ -16,17 +16,20 @@ use Rattle.pictures.specs.declared.Level.{Level}
 use Rattle.pictures.specs.declared.Sample.{Sample}
 use Rattle.pictures.specs.Picture.{pixelOf}
 use Rattle.pictures.specs.Bilinear.{sampleOf}
+use Rattle.pictures.specs.Given.{levelGiven, sampleGiven}
 use Rattle.maps.specs.declared.Got.{Got}
 use Rattle.maps.specs.declared.Validity.{Validity}
 use Rattle.maps.specs.declared.Number.{Number}
 use Rattle.maps.specs.declared.Extent.{Extent}
 use Rattle.maps.specs.Map.{gotAt, validAt, validCount, validRange, coverOf}
+use Rattle.maps.specs.Given.{gotGiven, validityGiven, numberGiven, rangeGiven, extentGiven}
 use Rattle.points.specs.declared.Intrinsics.{Intrinsics}
 use Rattle.points.specs.declared.Point3.{Point3}
 use Rattle.points.specs.declared.PointRecord.{PointRecord}
 use Rattle.points.specs.declared.Filled.{Filled}
 use Rattle.points.specs.Point.{pointOf}
 use Rattle.points.specs.Records.{answerOf, listAfter}
+use Rattle.points.specs.Given.{pointGiven, filledGiven}
 use Rattle.maps.specs.declared.Range.{Range}
 use Rattle.rows.specs.declared.RowRecord.{RowRecord}
 use Rattle.rows.specs.declared.Edit.{Edit}
@@ -37,24 +40,33 @@ use Rattle.matching.specs.Outcome.{matchCall, MatchDone}
 use Rattle.matching.proofs.Outcomes as matching
 use Rattle.vendor.specs.declared.Verdict.{Verdict}
 use Rattle.vendor.specs.Outcome.{vendorCall, CheckDone}
+use Rattle.vendor.specs.Given.{verdictGiven}
 use Rattle.vendor.proofs.Outcomes as vendor
 use Rattle.lists.specs.declared.Written.{Written}
 use Rattle.sheets.specs.declared.reading.Said.{Said}
 use Rattle.sheets.specs.Sheet.{sheetOf, readSheet}
 use Rattle.lists.specs.Writes.{byteCount, WriteDone}
+use Rattle.lists.specs.Given.{writtenGiven}
 use Rattle.sheets.specs.Outcome.{sizeSaid, ReadDone}
+use Rattle.sheets.specs.Given.{saidGiven}
 use Rattle.volume.specs.declared.site.Site.{Site}
 use Rattle.volume.specs.declared.site.Shape.{Shape}
 use Rattle.volume.specs.declared.heap.Heap.{Heap}
 use Rattle.volume.specs.Outcome.{shapeOf, heapOf, gridAfter}
+use Rattle.volume.specs.Given.{shapeGiven, heapGiven}
 use Rattle.netpbm.specs.declared.raster.Size.{Size}
 use Rattle.netpbm.specs.Pgm.{readPgm}
 use Rattle.netpbm.specs.Pfm.{pfmOf, readPfm}
 use Rattle.netpbm.specs.Outcome as netpbm
+use Rattle.netpbm.specs.Given.{sizeGiven}
 
 -- two answers that are both what a definition says
 both : {A : Type 0} {d r r′ : A} → r ≡ d → r′ ≡ d → r ≡ r′
 both e e′ = e ∙ sym e′
+
+-- and what they give back: the number and the values
+given-back : {A B : Type 0} (given : A → B) {d r r′ : A} → r ≡ d → r′ ≡ d → (r ≡ r′) × (given r ≡ given r′)
+given-back given e e′ = (both e e′, ap given (both e e′))
 
 -- a match: its number, the output and both rooms afterwards
 pub match-block : (left : List ℕ) (w h : ℕ) (right : List ℕ) (w′ h′ : ℕ) (o : BlockMatchOptions) (out : List Float) (whole : List ℕ) (float : List Float)
@@ -79,9 +91,10 @@ pub check-vendor : (left : List ℕ) (w h : ℕ) (right : List ℕ) (w′ h′ :
     (v v′ : Verdict) (room₁ room₂ : List ℕ)
     → CheckDone v (vendorCall left w h right w′ h′ o (length room)) o left right mapWidth mapHeight map room room₁
     → CheckDone v′ (vendorCall left w h right w′ h′ o (length room)) o left right mapWidth mapHeight map room room₂
-    → (v ≡ v′) × (room₁ ≡ room₂)
-check-vendor left w h right w′ h′ o map mapWidth mapHeight room =
-    vendor.one-outcome (vendorCall left w h right w′ h′ o (length room)) o left right mapWidth mapHeight map room
+    → ((v ≡ v′) × (verdictGiven v ≡ verdictGiven v′)) × (room₁ ≡ room₂)
+check-vendor left w h right w′ h′ o map mapWidth mapHeight room v v′ room₁ room₂ e e′ =
+    let one = vendor.one-outcome (vendorCall left w h right w′ h′ o (length room)) o left right mapWidth mapHeight map room v v′ room₁ room₂ e e′ in
+    ((one .0, ap verdictGiven (one .0)), one .1)
 
 -- the refusal of a call
 pub refusal : (q : Call) (n n′ : ℕ) → n ≡ refusals.refusal q → n′ ≡ refusals.refusal q → n ≡ n′
@@ -105,11 +118,11 @@ pub narrow : (x r r′ : Float) → r ≡ narrowed x → r′ ≡ narrowed x →
 narrow x r r′ = both
 
 -- the grey picture
-pub pixel : (pic : List ℕ) (w h x y : ℕ) (r r′ : Level) → r ≡ pixelOf pic w h x y → r′ ≡ pixelOf pic w h x y → r ≡ r′
-pixel pic w h x y r r′ = both
+pub pixel : (pic : List ℕ) (w h x y : ℕ) (r r′ : Level) → r ≡ pixelOf pic w h x y → r′ ≡ pixelOf pic w h x y → (r ≡ r′) × (levelGiven r ≡ levelGiven r′)
+pixel pic w h x y r r′ = given-back levelGiven
 
-pub bilinear : (pic : List ℕ) (w h : ℕ) (xf yf : Float) (r r′ : Sample) → r ≡ sampleOf pic w h xf yf → r′ ≡ sampleOf pic w h xf yf → r ≡ r′
-bilinear pic w h xf yf r r′ = both
+pub bilinear : (pic : List ℕ) (w h : ℕ) (xf yf : Float) (r r′ : Sample) → r ≡ sampleOf pic w h xf yf → r′ ≡ sampleOf pic w h xf yf → (r ≡ r′) × (sampleGiven r ≡ sampleGiven r′)
+bilinear pic w h xf yf r r′ = given-back sampleGiven
 
 -- a view of a map: its three fields
 pub new : {Cells : Type 0} (w h : ℕ) (cells : Cells) (w₁ w₂ h₁ h₂ : ℕ) (cells₁ cells₂ : Cells) → (w₁ ≡ w) × ((h₁ ≡ h) × (cells₁ ≡ cells)) → (w₂ ≡ w) × ((h₂ ≡ h) × (cells₂ ≡ cells))
@@ -117,35 +130,35 @@ pub new : {Cells : Type 0} (w h : ℕ) (cells : Cells) (w₁ w₂ h₁ h₂ : �
 new w h cells w₁ w₂ h₁ h₂ cells₁ cells₂ e e′ = (both (e .0) (e′ .0), both (e .1 .0) (e′ .1 .0), both (e .1 .1) (e′ .1 .1))
 
 -- the map, by its view: `get`, `valid`, `valid_count` and `valid_range` answer what `cell_at`, `valid_at`, `count_valid` and `range_valid` do
-pub get : (w h : ℕ) (cells : List Float) (x y : ℕ) (r r′ : Got) → r ≡ gotAt w h cells x y → r′ ≡ gotAt w h cells x y → r ≡ r′
-get w h cells x y r r′ = both
+pub get : (w h : ℕ) (cells : List Float) (x y : ℕ) (r r′ : Got) → r ≡ gotAt w h cells x y → r′ ≡ gotAt w h cells x y → (r ≡ r′) × (gotGiven r ≡ gotGiven r′)
+get w h cells x y r r′ = given-back gotGiven
 
-pub valid : (w h : ℕ) (cells : List Float) (x y : ℕ) (r r′ : Validity) → r ≡ validAt w h cells x y → r′ ≡ validAt w h cells x y → r ≡ r′
-valid w h cells x y r r′ = both
+pub valid : (w h : ℕ) (cells : List Float) (x y : ℕ) (r r′ : Validity) → r ≡ validAt w h cells x y → r′ ≡ validAt w h cells x y → (r ≡ r′) × (validityGiven r ≡ validityGiven r′)
+valid w h cells x y r r′ = given-back validityGiven
 
-pub valid-count : (w h : ℕ) (cells : List Float) (r r′ : Number) → r ≡ validCount w h cells → r′ ≡ validCount w h cells → r ≡ r′
-valid-count w h cells r r′ = both
+pub valid-count : (w h : ℕ) (cells : List Float) (r r′ : Number) → r ≡ validCount w h cells → r′ ≡ validCount w h cells → (r ≡ r′) × (numberGiven r ≡ numberGiven r′)
+valid-count w h cells r r′ = given-back numberGiven
 
-pub valid-range : (w h : ℕ) (cells : List Float) (r r′ : Extent) → r ≡ validRange w h cells → r′ ≡ validRange w h cells → r ≡ r′
-valid-range w h cells r r′ = both
+pub valid-range : (w h : ℕ) (cells : List Float) (r r′ : Extent) → r ≡ validRange w h cells → r′ ≡ validRange w h cells → (r ≡ r′) × (extentGiven r ≡ extentGiven r′)
+valid-range w h cells r r′ = given-back extentGiven
 
 -- the cover figure
-pub cover : (w h : ℕ) (cells : List Float) (r r′ : Number) → r ≡ coverOf w h cells → r′ ≡ coverOf w h cells → r ≡ r′
-cover w h cells r r′ = both
+pub cover : (w h : ℕ) (cells : List Float) (r r′ : Number) → r ≡ coverOf w h cells → r′ ≡ coverOf w h cells → (r ≡ r′) × (numberGiven r ≡ numberGiven r′)
+cover w h cells r r′ = given-back numberGiven
 
 -- one point, and the list of points: its answer and the list afterwards
-pub rectified-point : (k : Intrinsics) (x y d : Float) (r r′ : Point3) → r ≡ pointOf k x y d → r′ ≡ pointOf k x y d → r ≡ r′
-rectified-point k x y d r r′ = both
+pub rectified-point : (k : Intrinsics) (x y d : Float) (r r′ : Point3) → r ≡ pointOf k x y d → r′ ≡ pointOf k x y d → (r ≡ r′) × (pointGiven r ≡ pointGiven r′)
+rectified-point k x y d r r′ = given-back pointGiven
 
 pub points : (w h : ℕ) (cells : List Float) (k : Intrinsics) (list : List PointRecord) (r r′ : Filled) (list₁ list₂ : List PointRecord)
     → (r ≡ answerOf w h cells k (length list)) × (list₁ ≡ listAfter w h cells k list)
     → (r′ ≡ answerOf w h cells k (length list)) × (list₂ ≡ listAfter w h cells k list)
-    → (r ≡ r′) × (list₁ ≡ list₂)
-points w h cells k list r r′ list₁ list₂ e e′ = (both (e .0) (e′ .0), both (e .1) (e′ .1))
+    → ((r ≡ r′) × (filledGiven r ≡ filledGiven r′)) × (list₁ ≡ list₂)
+points w h cells k list r r′ list₁ list₂ e e′ = (given-back filledGiven (e .0) (e′ .0), both (e .1) (e′ .1))
 
 -- a row's record: its range; a fresh index, and an edit, with the map and the index afterwards
-pub range : (record-of-row : RowRecord) (r r′ : Range) → r ≡ rangeIn record-of-row → r′ ≡ rangeIn record-of-row → r ≡ r′
-range record-of-row r r′ = both
+pub range : (record-of-row : RowRecord) (r r′ : Range) → r ≡ rangeIn record-of-row → r′ ≡ rangeIn record-of-row → (r ≡ r′) × (rangeGiven r ≡ rangeGiven r′)
+range record-of-row r r′ = given-back rangeGiven
 
 pub fresh-index : (w h : ℕ) (cells : List Float) (index : List RowRecord) (n n′ : ℕ) (index₁ index₂ : List RowRecord)
     → FreshDone n w h cells index index₁ → FreshDone n′ w h cells index index₂ → (n ≡ n′) × (index₁ ≡ index₂)
@@ -156,51 +169,51 @@ pub edit-cell : (w h : ℕ) (change : Edit) (cells : List Float) (index : List R
 edit-cell w h change cells index n n′ cells₁ cells₂ index₁ index₂ e e′ = (both (e .answer) (e′ .answer), both (e .map) (e′ .map), both (e .records) (e′ .records))
 
 -- a map's sheet: how long it is, and written, with the output afterwards
-pub sheet-length : (kind w h : ℕ) (cells : List Float) (r r′ : Written) → r ≡ byteCount (sheetOf kind w h cells) → r′ ≡ byteCount (sheetOf kind w h cells) → r ≡ r′
-sheet-length kind w h cells r r′ = both
+pub sheet-length : (kind w h : ℕ) (cells : List Float) (r r′ : Written) → r ≡ byteCount (sheetOf kind w h cells) → r′ ≡ byteCount (sheetOf kind w h cells) → (r ≡ r′) × (writtenGiven r ≡ writtenGiven r′)
+sheet-length kind w h cells r r′ = given-back writtenGiven
 
 pub write-sheet : (kind w h : ℕ) (cells : List Float) (out : List ℕ) (r r′ : Written) (out₁ out₂ : List ℕ)
-    → WriteDone 33 r (sheetOf kind w h cells) out out₁ → WriteDone 33 r′ (sheetOf kind w h cells) out out₂ → (r ≡ r′) × (out₁ ≡ out₂)
-write-sheet kind w h cells out r r′ out₁ out₂ e e′ = (both (e .answers) (e′ .answers), both (e .outs) (e′ .outs))
+    → WriteDone 33 r (sheetOf kind w h cells) out out₁ → WriteDone 33 r′ (sheetOf kind w h cells) out out₂ → ((r ≡ r′) × (writtenGiven r ≡ writtenGiven r′)) × (out₁ ≡ out₂)
+write-sheet kind w h cells out r r′ out₁ out₂ e e′ = (given-back writtenGiven (e .answers) (e′ .answers), both (e .outs) (e′ .outs))
 
 -- what a sheet is, and read, with the output afterwards
-pub sheet-size : (s : List ℕ) (r r′ : Said) → r ≡ sizeSaid (readSheet s) → r′ ≡ sizeSaid (readSheet s) → r ≡ r′
-sheet-size s r r′ = both
+pub sheet-size : (s : List ℕ) (r r′ : Said) → r ≡ sizeSaid (readSheet s) → r′ ≡ sizeSaid (readSheet s) → (r ≡ r′) × (saidGiven r ≡ saidGiven r′)
+sheet-size s r r′ = given-back saidGiven
 
 pub read-sheet : (s : List ℕ) (out : List Float) (r r′ : Said) (out₁ out₂ : List Float)
-    → ReadDone r (readSheet s) out out₁ → ReadDone r′ (readSheet s) out out₂ → (r ≡ r′) × (out₁ ≡ out₂)
-read-sheet s out r r′ out₁ out₂ e e′ = (both (e .answers) (e′ .answers), both (e .outs) (e′ .outs))
+    → ReadDone r (readSheet s) out out₁ → ReadDone r′ (readSheet s) out out₂ → ((r ≡ r′) × (saidGiven r ≡ saidGiven r′)) × (out₁ ≡ out₂)
+read-sheet s out r r′ out₁ out₂ e e′ = (given-back saidGiven (e .answers) (e′ .answers), both (e .outs) (e′ .outs))
 
 -- a PGM picture: its size, and read, with the output afterwards
-pub pgm-size : (s : List ℕ) (r r′ : Size) → r ≡ netpbm.sizeOf (readPgm s) → r′ ≡ netpbm.sizeOf (readPgm s) → r ≡ r′
-pgm-size s r r′ = both
+pub pgm-size : (s : List ℕ) (r r′ : Size) → r ≡ netpbm.sizeOf (readPgm s) → r′ ≡ netpbm.sizeOf (readPgm s) → (r ≡ r′) × (sizeGiven r ≡ sizeGiven r′)
+pgm-size s r r′ = given-back sizeGiven
 
 pub read-pgm : (s : List ℕ) (out : List ℕ) (r r′ : Size) (out₁ out₂ : List ℕ)
-    → netpbm.ReadDone r (readPgm s) out out₁ → netpbm.ReadDone r′ (readPgm s) out out₂ → (r ≡ r′) × (out₁ ≡ out₂)
-read-pgm s out r r′ out₁ out₂ e e′ = (both (e .answers) (e′ .answers), both (e .outs) (e′ .outs))
+    → netpbm.ReadDone r (readPgm s) out out₁ → netpbm.ReadDone r′ (readPgm s) out out₂ → ((r ≡ r′) × (sizeGiven r ≡ sizeGiven r′)) × (out₁ ≡ out₂)
+read-pgm s out r r′ out₁ out₂ e e′ = (given-back sizeGiven (e .answers) (e′ .answers), both (e .outs) (e′ .outs))
 
 -- a map's PFM file: how long it is, and written, with the output afterwards
-pub pfm-length : (w h : ℕ) (cells : List Float) (r r′ : Written) → r ≡ byteCount (pfmOf w h cells) → r′ ≡ byteCount (pfmOf w h cells) → r ≡ r′
-pfm-length w h cells r r′ = both
+pub pfm-length : (w h : ℕ) (cells : List Float) (r r′ : Written) → r ≡ byteCount (pfmOf w h cells) → r′ ≡ byteCount (pfmOf w h cells) → (r ≡ r′) × (writtenGiven r ≡ writtenGiven r′)
+pfm-length w h cells r r′ = given-back writtenGiven
 
 pub write-pfm : (w h : ℕ) (cells : List Float) (out : List ℕ) (r r′ : Written) (out₁ out₂ : List ℕ)
-    → WriteDone 45 r (pfmOf w h cells) out out₁ → WriteDone 45 r′ (pfmOf w h cells) out out₂ → (r ≡ r′) × (out₁ ≡ out₂)
-write-pfm w h cells out r r′ out₁ out₂ e e′ = (both (e .answers) (e′ .answers), both (e .outs) (e′ .outs))
+    → WriteDone 45 r (pfmOf w h cells) out out₁ → WriteDone 45 r′ (pfmOf w h cells) out out₂ → ((r ≡ r′) × (writtenGiven r ≡ writtenGiven r′)) × (out₁ ≡ out₂)
+write-pfm w h cells out r r′ out₁ out₂ e e′ = (given-back writtenGiven (e .answers) (e′ .answers), both (e .outs) (e′ .outs))
 
 -- a PFM map: its size, and read, with the output afterwards
-pub pfm-size : (s : List ℕ) (r r′ : Size) → r ≡ netpbm.sizeOf (readPfm s) → r′ ≡ netpbm.sizeOf (readPfm s) → r ≡ r′
-pfm-size s r r′ = both
+pub pfm-size : (s : List ℕ) (r r′ : Size) → r ≡ netpbm.sizeOf (readPfm s) → r′ ≡ netpbm.sizeOf (readPfm s) → (r ≡ r′) × (sizeGiven r ≡ sizeGiven r′)
+pfm-size s r r′ = given-back sizeGiven
 
 pub read-pfm : (s : List ℕ) (out : List Float) (r r′ : Size) (out₁ out₂ : List Float)
-    → netpbm.ReadDone r (readPfm s) out out₁ → netpbm.ReadDone r′ (readPfm s) out out₂ → (r ≡ r′) × (out₁ ≡ out₂)
-read-pfm s out r r′ out₁ out₂ e e′ = (both (e .answers) (e′ .answers), both (e .outs) (e′ .outs))
+    → netpbm.ReadDone r (readPfm s) out out₁ → netpbm.ReadDone r′ (readPfm s) out out₂ → ((r ≡ r′) × (sizeGiven r ≡ sizeGiven r′)) × (out₁ ≡ out₂)
+read-pfm s out r r′ out₁ out₂ e e′ = (given-back sizeGiven (e .answers) (e′ .answers), both (e .outs) (e′ .outs))
 
 -- a heap: the shape of its grid, and its figures, with the grid afterwards
-pub heap-shape : (s : Site) (r r′ : Shape) → r ≡ shapeOf s → r′ ≡ shapeOf s → r ≡ r′
-heap-shape s r r′ = both
+pub heap-shape : (s : Site) (r r′ : Shape) → r ≡ shapeOf s → r′ ≡ shapeOf s → (r ≡ r′) × (shapeGiven r ≡ shapeGiven r′)
+heap-shape s r r′ = given-back shapeGiven
 
 pub heap-volume : (s : Site) (xs ys zs : List Float) (grid : List ℕ) (r r′ : Heap) (grid₁ grid₂ : List ℕ)
     → (r ≡ heapOf s xs ys zs (length grid)) × (grid₁ ≡ gridAfter s xs ys zs grid)
     → (r′ ≡ heapOf s xs ys zs (length grid)) × (grid₂ ≡ gridAfter s xs ys zs grid)
-    → (r ≡ r′) × (grid₁ ≡ grid₂)
-heap-volume s xs ys zs grid r r′ grid₁ grid₂ e e′ = (both (e .0) (e′ .0), both (e .1) (e′ .1))
+    → ((r ≡ r′) × (heapGiven r ≡ heapGiven r′)) × (grid₁ ≡ grid₂)
+heap-volume s xs ys zs grid r r′ grid₁ grid₂ e e′ = (given-back heapGiven (e .0) (e′ .0), both (e .1) (e′ .1))

@@ -12,8 +12,8 @@ use Rattle.refusals.specs.declared.Call.{Call}
 use Rattle.refusals.specs.Refusals.{Row, firstOf, pictureRows, searchRows, penaltyRows, lentRows, table, refusal}
 use Rattle.pictures.specs.Picture.{shapeOf, levelIn, pixelOf}
 use Rattle.pictures.specs.Bilinear.{clamped, placeOf, blended, valueAt, valueIn, sampleOf}
-use Rattle.maps.specs.Map.{goodSize, inside, gotAt, validAt, validCount, validRange, coverOf}
-use Rattle.points.specs.Point.{isPositive, goodCamera, goodBaseline}
+use Rattle.maps.specs.Map.{goodSize, inside, gotAt, validAt, valids, validCount, widen, widens, validRange, coverOf}
+use Rattle.points.specs.Point.{isPositive, pointOf, goodCamera, goodBaseline}
 use Rattle.points.specs.Records.{pointsIn, answerOf}
 use Rattle.sheets.specs.Number.{groups, numberBytes, takeGroups, takeNumber}
 use Rattle.sheets.specs.Code.{kindOf, codeOf, cellOf}
@@ -127,7 +127,7 @@ module _ (q : Call) where
 
 -- THEOREM: every number is answered for some call
 pub reached : Reached
-unfolding refusal table firstOf pictureRows searchRows penaltyRows lentRows pixelOf shapeOf levelIn sampleOf valueIn valueAt placeOf clamped blended gotAt validAt validCount validRange coverOf goodSize inside answerOf goodCamera goodBaseline pointsIn isPositive mul div sum add sub neg ofInt round size climb span units odd lt le eq isNan ofBits ofFields toUnsigned sheetOf kindSheet headBytes cellsBytes numberBytes groups kindOf codeOf cellOf whole toSigned readSheet takeHead takeVersion takeSide takeCells takeCell takeNumber takeGroups
+unfolding refusal table firstOf pictureRows searchRows penaltyRows lentRows pixelOf shapeOf levelIn sampleOf valueIn valueAt placeOf clamped blended gotAt validAt valids validCount widen widens validRange coverOf pointOf goodSize inside answerOf goodCamera goodBaseline pointsIn isPositive mul div sum add sub neg ofInt round size climb span units odd lt le eq isNan ofBits ofFields toUnsigned sheetOf kindSheet headBytes cellsBytes numberBytes groups kindOf codeOf cellOf whole toSigned readSheet takeHead takeVersion takeSide takeCells takeCell takeNumber takeGroups
 reached = record {
   matches = refl;
   pixel-1 = refl;
@@ -140,21 +140,32 @@ reached = record {
   bilinear-at = refl;
   get-23 = refl;
   get-26 = refl;
+  get-mark = refl;
+  get-at = refl;
   valid-23 = refl;
   valid-26 = refl;
+  valid-is = refl;
   valid-count-23 = refl;
+  valid-count-is = refl;
   valid-range-23 = refl;
+  valid-range-none = refl;
+  valid-range-is = refl;
   cover-23 = refl;
+  cover-is = refl;
+  point-none = refl;
+  point-is = refl;
   points-21 = refl;
   points-22 = refl;
   points-23 = refl;
   points-24 = refl;
+  points-is = refl;
   write-23 = refl;
   write-35 = refl;
   write-31 = refl;
   write-32 = refl;
   write-33 = refl;
   write-is = refl;
+  written = refl;
   read-34 = refl;
   read-34-long = refl;
   read-34-over = refl;
@@ -165,4 +176,5 @@ reached = record {
   read-38 = refl;
   read-11 = refl;
   read-is = refl;
+  cells-read = refl;
 }

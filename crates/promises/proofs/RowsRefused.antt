@@ -22,4 +22,6 @@ rows-reached = record {
   blanked = refl;
   emptied = refl;
   filled = refl;
+  range-none = refl;
+  range-is = refl;
 }

@@ -9,12 +9,12 @@ use Rattle.windows.specs.Window.{windowSum}
 use Rattle.costs.specs.Raw.{rawCost, shiftedCost, targetCost, pairCost, oneLevel, windowVar, windowCov, correlation}
 use Rattle.refusals.specs.Refusals.{firstOf, pictureRows, searchRows}
 use Rattle.vendor.specs.Verdict.{someBelow, firstNot, passes, verdictOf}
-use Rattle.vendor.specs.Outcome.{mapRows, vendorRefusal}
+use Rattle.vendor.specs.Outcome.{mapRows, vendorRefusal, answerOf}
 use Rattle.promises.specs.VendorWitnesses.{VendorsReached}
 
 -- THEOREM: every number of a check is answered for some pair, map and room, and each reason for a yes and for a no is met
 pub vendors-reached : VendorsReached
-unfolding toBits mul div ofInt round size climb span units odd lt eq le sub sum add neg ofBits ofFields isNan rootOf nearestRoot wholeRoot narrowed allBelow sumTo sumRect windowSum rawCost shiftedCost targetCost pairCost oneLevel windowVar windowCov correlation firstOf pictureRows searchRows someBelow firstNot passes verdictOf mapRows vendorRefusal
+unfolding toBits mul div ofInt round size climb span units odd lt eq le sub sum add neg ofBits ofFields isNan rootOf nearestRoot wholeRoot narrowed allBelow sumTo sumRect windowSum rawCost shiftedCost targetCost pairCost oneLevel windowVar windowCov correlation firstOf pictureRows searchRows someBelow firstNot passes verdictOf mapRows vendorRefusal answerOf
 vendors-reached = record {
   of-1 = refl;
   of-2 = refl;

@@ -5,9 +5,11 @@ use mathlib.Core.Bool.{false}
 use mathlib.Core.List.{List, [], _∷_, _++_}
 use lib.IntN.{pos}
 use lib.Ieee.{Float, fin}
-use Rattle.lists.specs.Steps.{is, refused}
-use Rattle.lists.specs.Writes.{roomFor}
-use Rattle.netpbm.specs.Outcome.{cellsFor}
+use Rattle.lists.specs.Steps.{Or, is, refused}
+use Rattle.lists.specs.Writes.{roomFor, byteCount}
+use Rattle.lists.specs.Given.{writtenGiven}
+use Rattle.netpbm.specs.Outcome.{cellsFor, sizeOf}
+use Rattle.netpbm.specs.Given.{Sides, sizeGiven}
 use Rattle.netpbm.specs.Pgm.{readPgm}
 use Rattle.netpbm.specs.Pfm.{pfmOf, readPfm}
 
@@ -30,27 +32,37 @@ pfmHeader w whole fraction = 80 ∷ 102 ∷ 10 ∷ w ∷ 32 ∷ 49 ∷ 10 ∷ 45
 abbrev pub oneMap : List ℕ
 oneMap = pfmHeader 49 49 48 ++ (0 ∷ 0 ∷ 128 ∷ 63 ∷ [])
 
+-- what is given back of a picture's bytes, and of a map's
+abbrev pub pgmSays : List ℕ → Or Sides
+pgmSays bytes = sizeGiven (sizeOf (readPgm bytes))
+
+abbrev pub pfmSays : List ℕ → Or Sides
+pfmSays bytes = sizeGiven (sizeOf (readPfm bytes))
+
 pub record FilesReached : Type 0 where
   -- a picture of one level: another magic number, a comment that does not end, a comment after the maximum, a maximum of 254, a width of
   -- 0, a level cut, one left over, and an output of two cells
-  pub pgm-41 : readPgm (80 ∷ 54 ∷ 10 ∷ []) ≡ refused 41
-  pub pgm-41-comment : readPgm (80 ∷ 53 ∷ 35 ∷ 49 ∷ 32 ∷ 49 ∷ 32 ∷ []) ≡ refused 41
-  pub pgm-41-late : readPgm (80 ∷ 53 ∷ 32 ∷ 49 ∷ 32 ∷ 49 ∷ 32 ∷ 50 ∷ 53 ∷ 53 ∷ 35 ∷ 10 ∷ 7 ∷ []) ≡ refused 41
-  pub pgm-42 : readPgm (pgmHeader 48 50 53 52 ++ (7 ∷ [])) ≡ refused 42
-  pub pgm-43 : readPgm (pgmHeader 48 50 53 53) ≡ refused 43
-  pub pgm-44 : readPgm pgmOne ≡ refused 44
-  pub pgm-44-over : readPgm (pgmOne ++ (7 ∷ 7 ∷ [])) ≡ refused 44
-  pub pgm-45 : cellsFor 2 (readPgm (pgmOne ++ (7 ∷ []))) ≡ refused 45
-  pub pgm-is : cellsFor 1 (readPgm (pgmOne ++ (7 ∷ []))) ≡ is (record { width = 1; height = 1; cells = 7 ∷ [] })
+  pub pgm-41 : pgmSays (80 ∷ 54 ∷ 10 ∷ []) ≡ refused 41
+  pub pgm-41-comment : pgmSays (80 ∷ 53 ∷ 35 ∷ 49 ∷ 32 ∷ 49 ∷ 32 ∷ []) ≡ refused 41
+  pub pgm-41-late : pgmSays (80 ∷ 53 ∷ 32 ∷ 49 ∷ 32 ∷ 49 ∷ 32 ∷ 50 ∷ 53 ∷ 53 ∷ 35 ∷ 10 ∷ 7 ∷ []) ≡ refused 41
+  pub pgm-42 : pgmSays (pgmHeader 48 50 53 52 ++ (7 ∷ [])) ≡ refused 42
+  pub pgm-43 : pgmSays (pgmHeader 48 50 53 53) ≡ refused 43
+  pub pgm-44 : pgmSays pgmOne ≡ refused 44
+  pub pgm-44-over : pgmSays (pgmOne ++ (7 ∷ 7 ∷ [])) ≡ refused 44
+  pub pgm-45 : sizeGiven (sizeOf (cellsFor 2 (readPgm (pgmOne ++ (7 ∷ []))))) ≡ refused 45
+  pub pgm-is : sizeGiven (sizeOf (cellsFor 1 (readPgm (pgmOne ++ (7 ∷ []))))) ≡ is (record { width = 1; height = 1 })
+  pub pgm-read : readPgm (pgmOne ++ (7 ∷ [])) ≡ is (record { width = 1; height = 1; cells = 7 ∷ [] })
   -- the map of one cell: a cell too many, and an output of 15 bytes
-  pub write-23 : pfmOf 1 1 (one ∷ one ∷ []) ≡ refused 23
-  pub write-45 : roomFor 45 15 (pfmOf 1 1 (one ∷ [])) ≡ refused 45
-  pub write-is : roomFor 45 16 (pfmOf 1 1 (one ∷ [])) ≡ is oneMap
+  pub write-23 : writtenGiven (byteCount (pfmOf 1 1 (one ∷ one ∷ []))) ≡ refused 23
+  pub write-45 : writtenGiven (byteCount (roomFor 45 15 (pfmOf 1 1 (one ∷ [])))) ≡ refused 45
+  pub write-is : writtenGiven (byteCount (roomFor 45 16 (pfmOf 1 1 (one ∷ [])))) ≡ is 16
+  pub written : pfmOf 1 1 (one ∷ []) ≡ is oneMap
   -- a map of one cell: another first line, a scale of zeros, a width of 0, a cell cut, a byte left over, and an output of two cells
-  pub pfm-41 : readPfm (80 ∷ 70 ∷ 10 ∷ []) ≡ refused 41
-  pub pfm-41-scale : readPfm (pfmHeader 49 48 48 ++ (0 ∷ 0 ∷ 128 ∷ 63 ∷ [])) ≡ refused 41
-  pub pfm-43 : readPfm (pfmHeader 48 49 48) ≡ refused 43
-  pub pfm-44 : readPfm (pfmHeader 49 49 48 ++ (0 ∷ 0 ∷ 128 ∷ [])) ≡ refused 44
-  pub pfm-44-over : readPfm (oneMap ++ (0 ∷ [])) ≡ refused 44
-  pub pfm-45 : cellsFor 2 (readPfm oneMap) ≡ refused 45
-  pub pfm-is : cellsFor 1 (readPfm oneMap) ≡ is (record { width = 1; height = 1; cells = one ∷ [] })
+  pub pfm-41 : pfmSays (80 ∷ 70 ∷ 10 ∷ []) ≡ refused 41
+  pub pfm-41-scale : pfmSays (pfmHeader 49 48 48 ++ (0 ∷ 0 ∷ 128 ∷ 63 ∷ [])) ≡ refused 41
+  pub pfm-43 : pfmSays (pfmHeader 48 49 48) ≡ refused 43
+  pub pfm-44 : pfmSays (pfmHeader 49 49 48 ++ (0 ∷ 0 ∷ 128 ∷ [])) ≡ refused 44
+  pub pfm-44-over : pfmSays (oneMap ++ (0 ∷ [])) ≡ refused 44
+  pub pfm-45 : sizeGiven (sizeOf (cellsFor 2 (readPfm oneMap))) ≡ refused 45
+  pub pfm-is : sizeGiven (sizeOf (cellsFor 1 (readPfm oneMap))) ≡ is (record { width = 1; height = 1 })
+  pub pfm-read : readPfm oneMap ≡ is (record { width = 1; height = 1; cells = one ∷ [] })

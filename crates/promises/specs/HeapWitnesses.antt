@@ -6,9 +6,9 @@ use mathlib.Core.List.{[], _∷_}
 use lib.IntN.{ℤ, pos, negsuc}
 use lib.Ieee.{Float, nan, fin}
 use Rattle.volume.specs.declared.site.Site.{Site}
-use Rattle.volume.specs.declared.site.Shape.the-variants as shape
-use Rattle.volume.specs.declared.heap.Heap.the-variants.{Measured, Refused}
+use Rattle.lists.specs.Steps.{is, refused}
 use Rattle.volume.specs.Outcome.{shapeOf, heapOf, gridAfter}
+use Rattle.volume.specs.Given.{shapeGiven, heapGiven}
 
 -- a quarter of a metre, half a metre, and 128 metres
 abbrev pub quarter : Float
@@ -30,26 +30,26 @@ plain = siteWith (pos 1000) 500 (pos 1000)
 
 pub record HeapsReached : Type 0 where
   -- a cell of 9 mm, and one of 10,001
-  pub of-51 : heapOf (siteWith (pos 1000) 9 (pos 1000)) (nan ∷ []) [] [] 0 ≡ Refused 51
-  pub of-51-wide : heapOf (siteWith (pos 1000) 10001 (pos 1000)) [] [] [] 0 ≡ Refused 51
+  pub of-51 : heapGiven (heapOf (siteWith (pos 1000) 9 (pos 1000)) (nan ∷ []) [] [] 0) ≡ refused 51
+  pub of-51-wide : heapGiven (heapOf (siteWith (pos 1000) 10001 (pos 1000)) [] [] [] 0) ≡ refused 51
   -- a coordinate that is no number, one of 128 m, a point without its z, an edge and a floor of 100,001 mm
-  pub of-52 : heapOf plain (quarter ∷ []) (nan ∷ []) (half ∷ []) 2 ≡ Refused 52
-  pub of-52-far : heapOf plain (quarter ∷ []) (quarter ∷ []) (far ∷ []) 2 ≡ Refused 52
-  pub of-52-cut : heapOf plain (quarter ∷ []) (quarter ∷ []) [] 2 ≡ Refused 52
-  pub of-52-edge : heapOf (siteWith (pos 100001) 500 (pos 1000)) [] [] [] 2 ≡ Refused 52
-  pub of-52-floor : heapOf (siteWith (pos 1000) 500 (negsuc 100000)) [] [] [] 2 ≡ Refused 52
+  pub of-52 : heapGiven (heapOf plain (quarter ∷ []) (nan ∷ []) (half ∷ []) 2) ≡ refused 52
+  pub of-52-far : heapGiven (heapOf plain (quarter ∷ []) (quarter ∷ []) (far ∷ []) 2) ≡ refused 52
+  pub of-52-cut : heapGiven (heapOf plain (quarter ∷ []) (quarter ∷ []) [] 2) ≡ refused 52
+  pub of-52-edge : heapGiven (heapOf (siteWith (pos 100001) 500 (pos 1000)) [] [] [] 2) ≡ refused 52
+  pub of-52-floor : heapGiven (heapOf (siteWith (pos 1000) 500 (negsuc 100000)) [] [] [] 2) ≡ refused 52
   -- edges in the wrong order, and a side of a cell and a half
-  pub of-53 : heapOf (siteWith (negsuc 999) 500 (pos 1000)) [] [] [] 2 ≡ Refused 53
-  pub of-53-part : heapOf (siteWith (pos 750) 500 (pos 1000)) [] [] [] 2 ≡ Refused 53
+  pub of-53 : heapGiven (heapOf (siteWith (negsuc 999) 500 (pos 1000)) [] [] [] 2) ≡ refused 53
+  pub of-53-part : heapGiven (heapOf (siteWith (pos 750) 500 (pos 1000)) [] [] [] 2) ≡ refused 53
   -- 10,000 by 50 cells
-  pub of-54 : heapOf (siteWith (pos 100000) 10 (pos 1000)) [] [] [] 2 ≡ Refused 54
+  pub of-54 : heapGiven (heapOf (siteWith (pos 100000) 10 (pos 1000)) [] [] [] 2) ≡ refused 54
   -- a grid of three cells for two
-  pub of-55 : heapOf plain (quarter ∷ []) (quarter ∷ []) (half ∷ []) 3 ≡ Refused 55
+  pub of-55 : heapGiven (heapOf plain (quarter ∷ []) (quarter ∷ []) (half ∷ []) 3) ≡ refused 55
   -- two points in the first cell, 500 and 750 mm high, a point on the high edge, which is outside, and an empty cell
-  pub measured : heapOf plain (quarter ∷ quarter ∷ half ∷ []) (quarter ∷ quarter ∷ half ∷ []) (half ∷ quarter ∷ half ∷ []) 2
-      ≡ Measured (record { volume = 187500000; inside = 2; outside = 1; empty = 1 })
+  pub measured : heapGiven (heapOf plain (quarter ∷ quarter ∷ half ∷ []) (quarter ∷ quarter ∷ half ∷ []) (half ∷ quarter ∷ half ∷ []) 2)
+      ≡ is (record { volume = 187500000; inside = 2; outside = 1; empty = 1 })
   pub grid : gridAfter plain (quarter ∷ quarter ∷ half ∷ []) (quarter ∷ quarter ∷ half ∷ []) (half ∷ quarter ∷ half ∷ []) (7 ∷ 7 ∷ []) ≡ 750 ∷ 0 ∷ []
   -- a point over each cell, both 500 mm high: that height over the rectangle
-  pub even : heapOf plain (quarter ∷ half ∷ []) (quarter ∷ quarter ∷ []) (half ∷ half ∷ []) 2
-      ≡ Measured (record { volume = 250000000; inside = 2; outside = 0; empty = 0 })
-  pub shaped : shapeOf plain ≡ shape.Grid 2 1
+  pub even : heapGiven (heapOf plain (quarter ∷ half ∷ []) (quarter ∷ quarter ∷ []) (half ∷ half ∷ []) 2)
+      ≡ is (record { volume = 250000000; inside = 2; outside = 0; empty = 0 })
+  pub shaped : shapeGiven (shapeOf plain) ≡ is (record { columns = 2; rows = 1 })

@@ -3,28 +3,29 @@ use Prim.Native.Nat.{ℕ}
 use mathlib.Core.Path.{_≡_}
 use mathlib.Core.Bool.{Bool, true, false}
 use mathlib.Core.List.{List, [], _∷_, map}
+use mathlib.Core.Option.{none, some}
 use lib.IntN.{ℤ, pos, negsuc}
 use lib.Ieee.{Float, nan, inf, fin}
 use Rattle.refusals.specs.declared.Call.{Call}
 use Rattle.refusals.specs.declared.Output.the-variants.{Map}
 use Rattle.refusals.specs.Refusals.{refusal}
-use Rattle.pictures.specs.declared.Level.the-variants as level
-use Rattle.pictures.specs.declared.Sample.the-variants as sample
 use Rattle.pictures.specs.Picture.{pixelOf}
 use Rattle.pictures.specs.Bilinear.{sampleOf}
-use Rattle.maps.specs.declared.Got.the-variants as got
-use Rattle.maps.specs.declared.Validity.the-variants as validity
-use Rattle.maps.specs.declared.Number.the-variants as number
-use Rattle.maps.specs.declared.Extent.the-variants as extent
+use Rattle.pictures.specs.Given.{levelGiven, sampleGiven}
+use Rattle.maps.specs.declared.Cell.the-variants as cell
 use Rattle.maps.specs.Map.{gotAt, validAt, validCount, validRange, coverOf}
+use Rattle.maps.specs.Given.{gotGiven, validityGiven, numberGiven, extentGiven}
 use Rattle.points.specs.declared.Intrinsics.{Intrinsics}
-use Rattle.points.specs.declared.Filled.the-variants.{Refused}
+use Rattle.points.specs.Point.{pointOf}
 use Rattle.points.specs.Records.{answerOf}
+use Rattle.points.specs.Given.{pointGiven, filledGiven}
 use Rattle.sheets.specs.declared.code.Kind.the-variants.{Whole}
-use Rattle.lists.specs.Steps.{is, refused}
+use Rattle.lists.specs.Steps.{Or, is, refused}
 use Rattle.sheets.specs.Sheet.{sheetOf, readSheet}
-use Rattle.lists.specs.Writes.{roomFor}
-use Rattle.sheets.specs.Outcome.{cellsFor}
+use Rattle.lists.specs.Writes.{roomFor, byteCount}
+use Rattle.lists.specs.Given.{writtenGiven}
+use Rattle.sheets.specs.Outcome.{cellsFor, sizeSaid}
+use Rattle.sheets.specs.Given.{SheetIs, saidGiven}
 
 -- a match of a left picture w wide and 3 high with so many bytes and a right one likewise, the first disparity, count, block side and
 -- mode, a penalty, and the lengths of the output and of the whole-number room; penalty p2 is 1, and the float room has 105 cells
@@ -77,48 +78,65 @@ cameraOf fx baseline = record { fx = fx; fy = one; cx = fin false 0 (pos 0); cy 
 abbrev oneSheet : List ℕ
 oneSheet = 1 ∷ 0 ∷ 1 ∷ 1 ∷ 3 ∷ []
 
--- EVERY NUMBER is answered for some call
+-- what is given back of a sheet's bytes
+abbrev sheetSays : List ℕ → Or SheetIs
+sheetSays bytes = saidGiven (sizeSaid (readSheet bytes))
+
+-- EVERY NUMBER is given back for some call
 pub record Reached : Type 0 where
   -- a match: 0 to 12
   pub matches : map refusal calls ≡ 0 ∷ 1 ∷ 2 ∷ 3 ∷ 4 ∷ 5 ∷ 6 ∷ 7 ∷ 8 ∷ 9 ∷ 10 ∷ 11 ∷ 12 ∷ []
   -- the picture of one byte: a width 0, a byte too many, a coordinate that is a NaN, and a pixel outside
-  pub pixel-1 : pixelOf (7 ∷ []) 0 1 0 0 ≡ level.Refused 1
-  pub pixel-2 : pixelOf (7 ∷ 7 ∷ []) 1 1 0 0 ≡ level.Refused 2
-  pub pixel-26 : pixelOf (7 ∷ []) 1 1 1 0 ≡ level.Refused 26
-  pub pixel-at : pixelOf (7 ∷ []) 1 1 0 0 ≡ level.At 7
-  pub bilinear-1 : sampleOf (7 ∷ []) 0 1 one one ≡ sample.Refused 1
-  pub bilinear-2 : sampleOf (7 ∷ 7 ∷ []) 1 1 one one ≡ sample.Refused 2
-  pub bilinear-25 : sampleOf (7 ∷ []) 1 1 nan one ≡ sample.Refused 25
-  pub bilinear-at : sampleOf (7 ∷ []) 1 1 one one ≡ sample.At (fin false 7 (pos 0))
+  pub pixel-1 : levelGiven (pixelOf (7 ∷ []) 0 1 0 0) ≡ refused 1
+  pub pixel-2 : levelGiven (pixelOf (7 ∷ 7 ∷ []) 1 1 0 0) ≡ refused 2
+  pub pixel-26 : levelGiven (pixelOf (7 ∷ []) 1 1 1 0) ≡ refused 26
+  pub pixel-at : levelGiven (pixelOf (7 ∷ []) 1 1 0 0) ≡ is 7
+  pub bilinear-1 : sampleGiven (sampleOf (7 ∷ []) 0 1 one one) ≡ refused 1
+  pub bilinear-2 : sampleGiven (sampleOf (7 ∷ 7 ∷ []) 1 1 one one) ≡ refused 2
+  pub bilinear-25 : sampleGiven (sampleOf (7 ∷ []) 1 1 nan one) ≡ refused 25
+  pub bilinear-at : sampleGiven (sampleOf (7 ∷ []) 1 1 one one) ≡ is (fin false 7 (pos 0))
   -- the map of one cell: a cell too many, and a pixel outside
-  pub get-23 : gotAt 1 1 (one ∷ one ∷ []) 0 0 ≡ got.Refused 23
-  pub get-26 : gotAt 1 1 (one ∷ []) 0 1 ≡ got.Refused 26
-  pub valid-23 : validAt 1 1 (one ∷ one ∷ []) 0 0 ≡ validity.Refused 23
-  pub valid-26 : validAt 1 1 (one ∷ []) 0 1 ≡ validity.Refused 26
-  pub valid-count-23 : validCount 1 1 (one ∷ one ∷ []) ≡ number.Refused 23
-  pub valid-range-23 : validRange 1 1 (one ∷ one ∷ []) ≡ extent.Refused 23
-  pub cover-23 : coverOf 1 1 (one ∷ one ∷ []) ≡ number.Refused 23
+  pub get-23 : gotGiven (gotAt 1 1 (one ∷ one ∷ []) 0 0) ≡ refused 23
+  pub get-26 : gotGiven (gotAt 1 1 (one ∷ []) 0 1) ≡ refused 26
+  pub get-mark : gotGiven (gotAt 1 1 (nan ∷ []) 0 0) ≡ is cell.Mark
+  pub get-at : gotGiven (gotAt 1 1 (one ∷ []) 0 0) ≡ is (cell.At one)
+  pub valid-23 : validityGiven (validAt 1 1 (one ∷ one ∷ []) 0 0) ≡ refused 23
+  pub valid-26 : validityGiven (validAt 1 1 (one ∷ []) 0 1) ≡ refused 26
+  pub valid-is : validityGiven (validAt 1 1 (one ∷ []) 0 0) ≡ is true
+  pub valid-count-23 : numberGiven (validCount 1 1 (one ∷ one ∷ [])) ≡ refused 23
+  pub valid-count-is : numberGiven (validCount 2 1 (one ∷ nan ∷ [])) ≡ is 1
+  pub valid-range-23 : extentGiven (validRange 1 1 (one ∷ one ∷ [])) ≡ refused 23
+  pub valid-range-none : extentGiven (validRange 1 1 (nan ∷ [])) ≡ is none
+  pub valid-range-is : extentGiven (validRange 1 1 (one ∷ [])) ≡ is (some (record { least = one; greatest = one }))
+  pub cover-23 : numberGiven (coverOf 1 1 (one ∷ one ∷ [])) ≡ refused 23
+  pub cover-is : numberGiven (coverOf 2 1 (one ∷ nan ∷ [])) ≡ is 500
+  -- the point of a disparity 0 and of 1 at (1, 1)
+  pub point-none : pointGiven (pointOf (cameraOf one one) one one (fin false 0 (pos 0))) ≡ none
+  pub point-is : pointGiven (pointOf (cameraOf one one) one one one) ≡ some (record { x = one; y = one; z = one })
   -- the points of one cell: fx a NaN, a baseline of 0, a cell too many, and a list without room
-  pub points-21 : answerOf 1 1 (one ∷ []) (cameraOf nan one) 1 ≡ Refused 21
-  pub points-22 : answerOf 1 1 (one ∷ []) (cameraOf one (fin false 0 (pos 0))) 1 ≡ Refused 22
-  pub points-23 : answerOf 1 1 (one ∷ one ∷ []) (cameraOf one one) 1 ≡ Refused 23
-  pub points-24 : answerOf 1 1 (one ∷ []) (cameraOf one one) 0 ≡ Refused 24
+  pub points-21 : filledGiven (answerOf 1 1 (one ∷ []) (cameraOf nan one) 1) ≡ refused 21
+  pub points-22 : filledGiven (answerOf 1 1 (one ∷ []) (cameraOf one (fin false 0 (pos 0))) 1) ≡ refused 22
+  pub points-23 : filledGiven (answerOf 1 1 (one ∷ one ∷ []) (cameraOf one one) 1) ≡ refused 23
+  pub points-24 : filledGiven (answerOf 1 1 (one ∷ []) (cameraOf one one) 0) ≡ refused 24
+  pub points-is : filledGiven (answerOf 1 1 (one ∷ []) (cameraOf one one) 1) ≡ is 1
   -- the sheet of one cell, 1: a cell too many, a kind 2, a cell that is infinite, minus zero in kind 0, and an output of 4 bytes
-  pub write-23 : sheetOf 0 1 1 (one ∷ one ∷ []) ≡ refused 23
-  pub write-35 : sheetOf 2 1 1 (one ∷ []) ≡ refused 35
-  pub write-31 : sheetOf 1 1 1 (inf true ∷ []) ≡ refused 31
-  pub write-32 : sheetOf 0 1 1 (fin true 0 (pos 0) ∷ []) ≡ refused 32
-  pub write-33 : roomFor 33 4 (sheetOf 0 1 1 (one ∷ [])) ≡ refused 33
-  pub write-is : roomFor 33 5 (sheetOf 0 1 1 (one ∷ [])) ≡ is oneSheet
+  pub write-23 : writtenGiven (byteCount (sheetOf 0 1 1 (one ∷ one ∷ []))) ≡ refused 23
+  pub write-35 : writtenGiven (byteCount (sheetOf 2 1 1 (one ∷ []))) ≡ refused 35
+  pub write-31 : writtenGiven (byteCount (sheetOf 1 1 1 (inf true ∷ []))) ≡ refused 31
+  pub write-32 : writtenGiven (byteCount (sheetOf 0 1 1 (fin true 0 (pos 0) ∷ []))) ≡ refused 32
+  pub write-33 : writtenGiven (byteCount (roomFor 33 4 (sheetOf 0 1 1 (one ∷ [])))) ≡ refused 33
+  pub write-is : writtenGiven (byteCount (roomFor 33 5 (sheetOf 0 1 1 (one ∷ [])))) ≡ is 5
+  pub written : sheetOf 0 1 1 (one ∷ []) ≡ is oneSheet
   -- bytes that say nothing: a number that is cut, one not shortest, one of six groups, a version 2, a kind 2, a width 0, a cell's number
   -- one too large, and a byte left over; and an output of two cells
-  pub read-34 : readSheet (0x81 ∷ []) ≡ refused 34
-  pub read-34-long : readSheet (0x81 ∷ 0x00 ∷ []) ≡ refused 34
-  pub read-34-over : readSheet (0x81 ∷ 0x80 ∷ 0x80 ∷ 0x80 ∷ 0x80 ∷ 0x01 ∷ []) ≡ refused 34
-  pub read-35 : readSheet (2 ∷ []) ≡ refused 35
-  pub read-35-kind : readSheet (1 ∷ 2 ∷ []) ≡ refused 35
-  pub read-36 : readSheet (1 ∷ 0 ∷ 0 ∷ []) ≡ refused 36
-  pub read-37 : readSheet (1 ∷ 0 ∷ 1 ∷ 1 ∷ 0x82 ∷ 0x80 ∷ 0x01 ∷ []) ≡ refused 37
-  pub read-38 : readSheet (1 ∷ 0 ∷ 1 ∷ 1 ∷ 3 ∷ 0 ∷ []) ≡ refused 38
-  pub read-11 : cellsFor 2 (readSheet oneSheet) ≡ refused 11
-  pub read-is : cellsFor 1 (readSheet oneSheet) ≡ is (record { kind = Whole; width = 1; height = 1; cells = one ∷ [] })
+  pub read-34 : sheetSays (0x81 ∷ []) ≡ refused 34
+  pub read-34-long : sheetSays (0x81 ∷ 0x00 ∷ []) ≡ refused 34
+  pub read-34-over : sheetSays (0x81 ∷ 0x80 ∷ 0x80 ∷ 0x80 ∷ 0x80 ∷ 0x01 ∷ []) ≡ refused 34
+  pub read-35 : sheetSays (2 ∷ []) ≡ refused 35
+  pub read-35-kind : sheetSays (1 ∷ 2 ∷ []) ≡ refused 35
+  pub read-36 : sheetSays (1 ∷ 0 ∷ 0 ∷ []) ≡ refused 36
+  pub read-37 : sheetSays (1 ∷ 0 ∷ 1 ∷ 1 ∷ 0x82 ∷ 0x80 ∷ 0x01 ∷ []) ≡ refused 37
+  pub read-38 : sheetSays (1 ∷ 0 ∷ 1 ∷ 1 ∷ 3 ∷ 0 ∷ []) ≡ refused 38
+  pub read-11 : saidGiven (sizeSaid (cellsFor 2 (readSheet oneSheet))) ≡ refused 11
+  pub read-is : saidGiven (sizeSaid (cellsFor 1 (readSheet oneSheet))) ≡ is (record { kind = 0; width = 1; height = 1 })
+  pub cells-read : readSheet oneSheet ≡ is (record { kind = Whole; width = 1; height = 1; cells = one ∷ [] })
