@@ -7,3 +7,4 @@ pub mod FileWitnesses
 pub mod HeapWitnesses
 pub mod RowWitnesses
 pub mod VendorWitnesses
+pub mod LimitWitnesses
