@@ -1,14 +1,16 @@
 -- What the program prints for an input. Definitions only.
 use Prim.Native.Nat.{ℕ, _+_, _*_}
+use mathlib.Core.Path.{_≡_}
 use mathlib.Core.Bool.{cond}
 use mathlib.Core.List.{List}
-use lib.ListN.{take, drop}
+use lib.ListN.{length, take, drop}
 use lib.Dec.{eqb}
 use lib.IntN.{pos}
 use Rattle.options.specs.Options.{defaultOptions}
 use Rattle.options.specs.declared.BlockMatchOptions.{BlockMatchOptions}
 use Rattle.refusals.specs.declared.Call.{Call}
 use Rattle.refusals.specs.Refusals.{refusal}
+use Rattle.lists.specs.Stores.{Printed}
 use Rattle.maps.specs.Map.{valids}
 use Rattle.matching.specs.Maps.{mapOf}
 use Rattle.matching.specs.Outcome.{matchCall}
@@ -69,3 +71,11 @@ answerWith s BadInput = badInputText
 -- the whole answer
 unfoldable pub answerOf : List ℕ → List ℕ
 answerOf s = answerWith s (planOf s)
+
+-- the first n bytes of an array are a reading of the input s: the whole input, or as much of it as the array holds
+abbrev pub Reading : List ℕ → ℕ → List ℕ → Type 0
+Reading array n s = take n array ≡ take (length array) s
+
+-- what is printed after a reading is the answer to every input that reads so
+abbrev pub ReadingAnswered : List ℕ → ℕ → List ℕ → List ℕ → ℕ → Type 0
+ReadingAnswered array n old new count = (s : List ℕ) → Reading array n s → Printed old (answerOf s) new count

@@ -15,7 +15,10 @@ ghost use lib.ListN.{length};
 ghost use Rattle.heap_text.specs.Text.{mapText};
 ghost use Rattle.lists.specs.Stores.{Printed};
 ghost use Rattle.maps.specs.Map.{goodSize, valids};
-ghost use Rattle.heap_print.specs.Answer.{wholeRoom, floatRoom, optionsOf, matchedText, answerOf};
+ghost use Rattle.heap_print.specs.Answer.{wholeRoom, floatRoom, optionsOf, matchedText, answerOf, ReadingAnswered};
+
+// The longest good input is a line of 32 bytes and two pictures of 384; one byte more shows that an input is too long.
+const READ_MOST: usize = 801;
 
 // The line's options; the others are the defaults.
 fn options_of(q: Request) -> BlockMatchOptions
@@ -103,16 +106,37 @@ fn answer(
     }
 }
 
-// The longest good input is a line of 32 bytes and two pictures of 384; one byte more shows that an input is too long.
+// The answer to every input that reads so, however long it is: the first n bytes of the array are the whole input, or as much of it as the
+// array holds. The type keeps the array's length, which has to be enough to tell a good input from a longer one.
+fn answer_reading(
+    read: &[u8; READ_MOST],
+    n: usize,
+    cells: &mut [f32],
+    whole_room: &mut [u64],
+    float_room: &mut [f32],
+    out: &mut [u8],
+) -> usize
+    requires { ⌜ n ≤ length (now read) ⌝ }
+    requires { ⌜ 384 ≤ length (now cells) ⌝ }
+    requires { ⌜ (length (now «whole_room») ≡ wholeRoom) × (length (now «float_room») ≡ floatRoom) ⌝ }
+    requires { ⌜ 3475 ≤ length (now out) ⌝ }
+    ensures { λ r. ⌜ ReadingAnswered (now (read .entry)) n (now (out .entry)) (now (out .exit)) r ⌝ }
+{
+    let whole: &[u8] = read;
+    answer(&whole[..n], cells, whole_room, float_room, out)
+}
+
+// No contract says what is read; `io::read_full` stops where the array is full or the input ends.
 fn main() {
-    let mut input = [0u8; 801];
+    let mut input = [0u8; READ_MOST];
     let mut cells = [0.0f32; 384];
     let mut whole_room = [0u64; 2125];
     let mut float_room = [0.0f32; 9600];
     let mut out = [0u8; 3475];
     let n = io::read_full(STDIN_FILENO, &mut input);
-    let m = answer(
-        &input[..n],
+    let m = answer_reading(
+        &input,
+        n,
         &mut cells,
         &mut whole_room,
         &mut float_room,
