@@ -1,6 +1,7 @@
 //! Holds the proved library to the Rust: the same inputs on both sides, every cell bit for bit, every refusal, both rooms.
 //!
-//! `differential [SEED] [SECONDS]`; the seed is printed, and the same seed gives the same cases in the same order.
+//! `differential [SEED] [SECONDS] [LEAST]`; the seed is printed, and the same seed gives the same cases in the same order. The run fails
+//! where fewer than LEAST pairs were matched, for then it says little.
 mod case;
 mod compare;
 mod maps;
@@ -20,7 +21,13 @@ struct Run {
     seed: u64,
     tallies: Vec<(&'static str, usize)>,
     refusals: [usize; 27],
+    /// How many pairs were accepted, and so matched on both sides.
+    matched: usize,
 }
+
+/// How many times SECONDS the run may take until LEAST pairs are matched: under an emulator, which is some ten times slower than the
+/// processor itself, the time alone may not be enough.
+const LONGEST: u64 = 5;
 
 impl Run {
     /// One case on both sides; a difference ends the run.
@@ -31,7 +38,9 @@ impl Run {
             println!("smaller: {}\n{small:?}", compare::check(&small).unwrap_err());
             exit(1);
         }
-        self.count(kind, case.refusal(false));
+        let number = case.refusal(false);
+        self.count(kind, number);
+        self.matched += usize::from(number == 0);
     }
 
     /// One case of another call on both sides, whose check gives its number; a difference ends the run.
@@ -59,6 +68,7 @@ impl Run {
         }
         let given: Vec<String> = (1..13).chain(21..27).map(|n| format!("{n}: {}", self.refusals[n])).collect();
         println!("{:>9} accepted; refusals {}", self.refusals[0], given.join(", "));
+        println!("{:>9} pairs matched", self.matched);
     }
 }
 
@@ -109,15 +119,26 @@ fn others(run: &mut Run, rng: &mut Rng, until: Instant) {
     }
 }
 
+/// Pairs as a site would send them, some of a fixed size and then of any.
+fn textured(run: &mut Run, rng: &mut Rng, until: Instant) {
+    for (w, h) in [(64, 48), (160, 120), (320, 240), (640, 480)] {
+        run.try_case("textured pairs", &case::textured(rng, w, h));
+    }
+    while Instant::now() < until {
+        let (w, h) = (40 + rng.below(120), 30 + rng.below(90));
+        run.try_case("textured pairs", &case::textured(rng, w, h));
+    }
+}
+
 fn main() {
-    let words: Vec<u64> = std::env::args().skip(1).map(|w| w.parse().expect("SEED and SECONDS are whole numbers")).collect();
-    let seed = words.first().copied().unwrap_or(1);
-    let seconds = words.get(1).copied().unwrap_or(30);
+    let words: Vec<u64> = std::env::args().skip(1).map(|w| w.parse().expect("SEED, SECONDS and LEAST are whole numbers")).collect();
+    let word = |place: usize, missing: u64| words.get(place).copied().unwrap_or(missing);
+    let (seed, seconds, least) = (word(0, 1), word(1, 30), word(2, 0) as usize);
     println!("seed {seed}, {seconds} seconds");
     let start = Instant::now();
     let share = |part: u64| start + Duration::from_millis(seconds * 10 * part);
     let mut rng = Rng::new(seed);
-    let mut run = Run { seed, tallies: Vec::new(), refusals: [0; 27] };
+    let mut run = Run { seed, tallies: Vec::new(), refusals: [0; 27], matched: 0 };
 
     named(&mut run);
     exhaustive(&mut run, &mut rng, share(15));
@@ -126,13 +147,14 @@ fn main() {
         run.try_case("small pairs at a boundary", &case::small(&mut rng));
         run.try_case("small pairs, unfit", &case::unfit(&mut rng));
     }
-    for (w, h) in [(64, 48), (160, 120), (320, 240), (640, 480)] {
-        run.try_case("textured pairs", &case::textured(&mut rng, w, h));
-    }
-    while Instant::now() < share(100) {
-        let (w, h) = (40 + rng.below(120), 30 + rng.below(90));
-        run.try_case("textured pairs", &case::textured(&mut rng, w, h));
+    textured(&mut run, &mut rng, share(100));
+    while run.matched < least && Instant::now() < share(100 * LONGEST) {
+        run.try_case("small pairs at a boundary", &case::small(&mut rng));
     }
     run.report();
+    if run.matched < least {
+        println!("no difference, but {least} pairs were to be matched");
+        exit(1);
+    }
     println!("no difference");
 }
