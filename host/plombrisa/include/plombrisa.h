@@ -8,6 +8,10 @@
 #include <stddef.h>
 #include <stdint.h>
 
+#ifdef __cplusplus
+extern "C" {
+#endif
+
 /* The map of two pictures: cell (x, y) in cell y*w + x of out, a NaN where it is blank. whole_room needs 5(w+1)(h+1) cells,
  * float_room V + w*h, or 3V + w*h in semi-global mode, with V = num_disparities*w*h. */
 uint32_t plombrisa_match_block(
@@ -129,5 +133,9 @@ uint32_t plombrisa_check_vendor(
     int32_t min_disparity, int32_t num_disparities, size_t block_size, float min_correlation,
     const float *map, size_t map_len, size_t map_width, size_t map_height,
     uint64_t *whole_room, size_t whole_len, uint32_t *passed, uint64_t *x, uint64_t *y);
+
+#ifdef __cplusplus
+}
+#endif
 
 #endif

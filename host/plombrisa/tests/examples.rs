@@ -24,20 +24,31 @@ fn the_readme_shows_them() {
     }
 }
 
-/// The C compiler for the library's processor.
-fn c_compiler() -> Command {
-    Command::new(std::env::var("CC").unwrap_or_else(|_| String::from("cc")))
+/// A language that the header is for: where the compiler for the library's processor is named, how it is called otherwise, and its words.
+struct Language {
+    variable: &'static str,
+    usual: &'static str,
+    words: &'static [&'static str],
 }
 
-/// What a C program of host/plombrisa prints.
-fn printed_by(source: &str) -> String {
+const C: Language = Language { variable: "CC", usual: "cc", words: &["-x", "c", "-std=c11"] };
+
+/// With C++'s own library inside the program, for the emulator has none for it.
+const CPP: Language =
+    Language { variable: "CXX", usual: "c++", words: &["-x", "c++", "-std=c++17", "-static-libstdc++", "-static-libgcc"] };
+
+/// What a source of host/plombrisa prints that is compiled as one of the languages.
+fn printed_by(source: &str, language: &Language) -> String {
     let home = repository().join("host/plombrisa");
-    let program = Path::new(env!("CARGO_TARGET_TMPDIR")).join(source.replace(['/', '.'], "_"));
+    let program = Path::new(env!("CARGO_TARGET_TMPDIR")).join(format!("{}_{}", source.replace(['/', '.'], "_"), language.variable));
+    let compiler = std::env::var(language.variable).unwrap_or_else(|_| String::from(language.usual));
     printed(
-        c_compiler()
-            .args(["-std=c11", "-Wall", "-Wextra", "-Werror", "-I"])
+        Command::new(compiler)
+            .args(language.words)
+            .args(["-Wall", "-Wextra", "-Wpedantic", "-Werror", "-I"])
             .arg(home.join("include"))
             .arg(home.join(source))
+            .args(["-x", "none"])
             .arg(repository().join("target/staticlib/libplombrisa.a"))
             .arg("-o")
             .arg(&program),
@@ -46,13 +57,17 @@ fn printed_by(source: &str) -> String {
 }
 
 #[test]
-fn the_c_example_runs() {
-    assert_eq!(printed_by("examples/match.c"), "disparity at (2, 1): 1\n");
+fn the_c_example_runs_as_c_and_as_cpp() {
+    for language in [C, CPP] {
+        assert_eq!(printed_by("examples/match.c", &language), "disparity at (2, 1): 1\n");
+    }
 }
 
 #[test]
 fn the_header_declares_the_exports_as_they_are() {
-    assert_eq!(printed_by("tests/header.c"), "");
+    for language in [C, CPP] {
+        assert_eq!(printed_by("tests/header.c", &language), "");
+    }
 }
 
 /// What a Rust example prints.

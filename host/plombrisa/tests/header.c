@@ -1,4 +1,5 @@
-/* Calls each export as the header declares it, and exits with the number of the first that answers otherwise than it should. */
+/* Calls each export as the header declares it, and exits with the number of the first that answers otherwise than it should. The text is
+ * C11 and C++17. */
 #include <math.h>
 #include <string.h>
 #include "plombrisa.h"
@@ -37,7 +38,8 @@ int main(void) {
     if (!plombrisa_rectified_point(800, 800, 320, 240, 0.125, 360, 200, 4, &x, &y, &z)) return 7;
     if (x != 1.25 || y != -1.25 || z != 25) return 8;
 
-    plombrisa_point_record list[3] = {{0}};
+    plombrisa_point_record list[3];
+    memset(list, 0, sizeof list);
     list[2].disparity = 7;
     if (plombrisa_points(cells, 4, 2, 2, 1, 1, 0, 0, 8, list, 3, &number) != 0 || number != 2) return 9;
     if (list[0].column != 1 || list[0].row != 0 || list[0].disparity != 4 || list[0].z != 2 || list[0].x != 2) return 10;
