@@ -1,5 +1,5 @@
 //! The examples of the README: the text there is the text compiled here. The two matches answer the worked example of document 01.
-use runs::program::program_at;
+use runs::program::{program_at, shell_line};
 use std::fs::read_to_string;
 use std::path::{Path, PathBuf};
 use std::process::Command;
@@ -61,6 +61,16 @@ fn the_c_example_runs_as_c_and_as_cpp() {
     for language in [C, CPP] {
         assert_eq!(printed_by("examples/match.c", &language), "disparity at (2, 1): 1\n");
     }
+}
+
+/// The README's line that compiles the example, as it stands.
+#[test]
+fn the_readme_compiles_the_c_example() {
+    let readme = read_to_string(repository().join("README.md")).expect("README.md");
+    let line = readme.lines().find(|line| line.contains("host/plombrisa/examples/match.c ")).expect("the line");
+    let shown = printed(shell_line(line).current_dir(repository()));
+    assert_eq!(shown, "disparity at (2, 1): 1\n");
+    assert!(readme.contains(&format!("prints `{}`", shown.trim_end())));
 }
 
 #[test]

@@ -2,16 +2,28 @@
 use std::path::Path;
 use std::process::Command;
 
-/// The program at a path, under the emulator where cargo runs programs under one.
+/// The emulator, where cargo runs programs under one (host/x86_64.sh).
+fn emulator() -> Option<String> {
+    std::env::var("CARGO_TARGET_X86_64_UNKNOWN_LINUX_GNU_RUNNER").ok()
+}
+
+/// The program at a path, under the emulator where there is one.
 pub fn program_at(path: &Path) -> Command {
-    match std::env::var("CARGO_TARGET_X86_64_UNKNOWN_LINUX_GNU_RUNNER") {
-        Ok(emulator) => {
+    match emulator() {
+        Some(emulator) => {
             let mut command = Command::new(emulator);
             command.arg(path);
             command
         }
-        Err(_) => Command::new(path),
+        None => Command::new(path),
     }
+}
+
+/// A line as a reader of the README gives it to a shell, after `. host/x86_64.sh`.
+pub fn shell_line(line: &str) -> Command {
+    let mut command = Command::new("sh");
+    command.args(["-c", line]).env("RUNNER", emulator().unwrap_or_default());
+    command
 }
 
 /// Prints and gives a run's words SEED and COUNT, in place of missing ones 1 and a million.

@@ -103,9 +103,12 @@ fn readme() -> String {
     fs::read_to_string(concat!(env!("CARGO_MANIFEST_DIR"), "/../../README.md")).expect("README.md")
 }
 
+/// How the README starts the tool, in the repository's root.
+const STARTED: &str = "cargo run --release --manifest-path host/Cargo.toml -p tool -- ";
+
 /// The line of the README with a command of the tool, and the text behind that line.
 fn command_line<'a>(readme: &'a str, command: &str) -> (&'a str, &'a str) {
-    let named = format!("-p tool -- {command} ");
+    let named = format!("{STARTED}{command} ");
     let line = readme.split_inclusive('\n').find(|line| line.contains(&named)).expect("the command");
     let (_, behind) = readme.split_once(line).expect("a line of it");
     (line, behind)
@@ -114,14 +117,13 @@ fn command_line<'a>(readme: &'a str, command: &str) -> (&'a str, &'a str) {
 /// The words behind the tool's name in a command of the README, its files in the places where they are here.
 fn words_of(command: &str) -> Vec<&str> {
     let place = |word| match word {
-        "tool/example/left.pgm" => LEFT,
-        "tool/example/right.pgm" => RIGHT,
+        "host/tool/example/left.pgm" => LEFT,
+        "host/tool/example/right.pgm" => RIGHT,
         "map.pfm" => concat!(env!("CARGO_TARGET_TMPDIR"), "/readme.pfm"),
         "preview.png" => concat!(env!("CARGO_TARGET_TMPDIR"), "/readme.png"),
         other => other,
     };
-    let (_, words) = command.split_once("-p tool -- ").expect("the tool's name");
-    words.split_whitespace().map(place).collect()
+    command.trim_start().strip_prefix(STARTED).expect("the tool's start").split_whitespace().map(place).collect()
 }
 
 /// What the README says of the example: its command, and the cover of both modes.
@@ -129,11 +131,23 @@ fn words_of(command: &str) -> Vec<&str> {
 fn the_readme_says_what_is_printed() {
     let readme = readme();
     let (block, ..) = matched(LEFT, RIGHT, "readme_block", &["--num-disparities", "24"]);
-    assert!(readme.contains("tool/example/right.pgm map.pfm preview.png --num-disparities 24\n"));
+    assert!(readme.contains("host/tool/example/right.pgm map.pfm preview.png --num-disparities 24\n"));
     assert!(readme.contains(&format!("```\n{}```\n", block.out)), "{}", block.out);
     let (semi_global, ..) = matched(LEFT, RIGHT, "readme_semi", &["--num-disparities", "24", "--semi-global", "--no-lr"]);
     let cover = semi_global.out.split_whitespace().nth(5).expect("the cover");
     assert!(readme.contains(&format!("whose cover is {cover}:")), "{}", semi_global.out);
+}
+
+/// The commands of the README are given in the repository's root, and none leaves it.
+#[test]
+fn the_readme_s_commands_are_for_the_root() {
+    let readme = readme();
+    let commands: Vec<&str> = readme.lines().filter(|line| line.starts_with("    ") && line.contains("cargo ")).collect();
+    assert!(commands.len() >= 4, "{commands:?}");
+    for command in commands.iter().flat_map(|line| line.trim_start().split(" && ")) {
+        assert!(command.starts_with("cargo run --release --manifest-path host/Cargo.toml -p "), "{command}");
+    }
+    assert!(!readme.contains("cd host"));
 }
 
 #[test]

@@ -4,8 +4,9 @@ mod expected;
 mod inputs;
 
 use inputs::Kind;
-use runs::program::program_at;
+use runs::program::{program_at, shell_line};
 use std::collections::BTreeMap;
+use std::fs;
 use std::io::{ErrorKind, Write};
 use std::path::{Path, PathBuf};
 use std::process::{Child, Stdio};
@@ -19,8 +20,12 @@ const HEADS: [&str; 9] = ["MAP", "TOO BIG", "BAD INPUT", "REFUSED 1", "REFUSED 4
 /// The fewest inputs that the program is started on.
 const INPUTS_LEAST: usize = 400;
 
+fn repository() -> PathBuf {
+    Path::new(env!("CARGO_MANIFEST_DIR")).join("../..")
+}
+
 fn program() -> PathBuf {
-    let program = Path::new(env!("CARGO_MANIFEST_DIR")).join("../../target/bin/heap_print");
+    let program = repository().join("target/bin/heap_print");
     assert!(program.is_file(), "{} is not there: `rt check heap_print` makes it", program.display());
     program
 }
@@ -91,4 +96,16 @@ fn an_input_may_arrive_in_pieces() {
     assert_eq!(answer, expected::answer(&input));
     assert_eq!(head(&answer), "MAP");
     assert_eq!(printed(&[&input, b"x"]), "BAD INPUT\n");
+}
+
+/// The README starts the program on the worked example, once it is made, and shows what it prints.
+#[test]
+fn the_readme_says_what_is_printed() {
+    let readme = fs::read_to_string(repository().join("README.md")).expect("README.md");
+    let (_, behind) = readme.split_once("\n    rt check heap_print && ").expect("the command");
+    let (line, shown) = behind.split_once('\n').expect("a line");
+    let ended = shell_line(line).current_dir(repository()).output().expect("a shell");
+    let printed = String::from_utf8(ended.stdout).expect("text");
+    assert!(shown.starts_with(&format!("\nwhich prints\n\n```\n{printed}```\n")), "{line}: {printed}");
+    assert!(printed.starts_with("MAP 5 3 2\n") && ended.status.success());
 }
