@@ -1,6 +1,5 @@
 -- `heap_print::answer_reading` meets its contract: what lies beyond 801 bytes of an input changes no answer. Assumes nothing.
 use mathlib.Core.Path.{sym}
-use native.Mathlib.Omega.{arith}
 use borrow.Author.Needs.{needs}
 use lib.Seq.{length-take-le}
 use Rattle.heap_print.proofs.Prefix.{reading-answered}
