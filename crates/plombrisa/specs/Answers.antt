@@ -57,14 +57,15 @@ pub record LentRange : Type 0 where
   pub least : Float
   pub greatest : Float
 
-abbrev pub rangeIn : ℕ → Float → Float → LentRange
-rangeIn valid least greatest = record { valid = valid; least = least; greatest = greatest }
+abbrev pub spanIn : ℕ → Float → Float → LentRange
+spanIn valid least greatest = record { valid = valid; least = least; greatest = greatest }
 
--- the two are as they were where no cell is valid
+-- a range in it: least and greatest are as they were where no cell is valid
 abbrev pub rangeAfter : LentRange → Option Ends → LentRange
-rangeAfter lent none = rangeIn 0 (lent .least) (lent .greatest)
-rangeAfter lent (some ends) = rangeIn 1 (ends .least) (ends .greatest)
+rangeAfter lent none = spanIn 0 (lent .least) (lent .greatest)
+rangeAfter lent (some ends) = spanIn 1 (ends .least) (ends .greatest)
 
+-- a host is told a range so
 abbrev pub RangeTold : ℕ → Or (Option Ends) → LentRange → LentRange → Type 0
 RangeTold n answer lent lent′ = Told n (andThen answer (λ ends. is (rangeAfter lent ends))) lent lent′
 
@@ -77,11 +78,12 @@ pub record LentVerdict : Type 0 where
 abbrev pub verdictIn : ℕ → ℕ → ℕ → LentVerdict
 verdictIn passed column row = record { passed = passed; column = column; row = row }
 
--- the two are as they were where there is no bad cell
+-- a verdict in it: column and row are as they were where there is no bad cell
 abbrev pub verdictAfter : LentVerdict → YesNo → LentVerdict
 verdictAfter lent yes = verdictIn 1 (lent .column) (lent .row)
 verdictAfter lent (no column row) = verdictIn 0 column row
 
+-- a host is told a verdict so
 abbrev pub VerdictTold : ℕ → Or YesNo → LentVerdict → LentVerdict → Type 0
 VerdictTold n answer lent lent′ = Told n (andThen answer (λ verdict. is (verdictAfter lent verdict))) lent lent′
 

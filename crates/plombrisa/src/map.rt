@@ -1,7 +1,7 @@
 // A map's figures, for hosts: 0, or the number of the refusal, which leaves what is lent as it was.
 ghost use Rattle.maps.specs.Map.{validCount, validRange, coverOf};
 ghost use Rattle.maps.specs.Given.{numberGiven, extentGiven};
-ghost use Rattle.plombrisa.specs.Answers.{Told, rangeIn, RangeTold};
+ghost use Rattle.plombrisa.specs.Answers.{Told, spanIn, RangeTold};
 use maps::Extent;
 use maps::Number;
 use maps::count_valid;
@@ -57,7 +57,7 @@ pub extern "C" fn plombrisa_valid_range(
     least: &mut f32,
     greatest: &mut f32,
 ) -> u32
-    ensures { λ n. ⌜ RangeTold n (extentGiven (validRange width height (now (cells .entry)))) (rangeIn (now (some .entry)) (now (least .entry)) (now (greatest .entry))) (rangeIn (now (some .exit)) (now (least .exit)) (now (greatest .exit))) ⌝ }
+    ensures { λ n. ⌜ RangeTold n (extentGiven (validRange width height (now (cells .entry)))) (spanIn (now (some .entry)) (now (least .entry)) (now (greatest .entry))) (spanIn (now (some .exit)) (now (least .exit)) (now (greatest .exit))) ⌝ }
 {
     match range_valid(width, height, cells) {
         Extent::Refused(n) => n as u32,
