@@ -1,10 +1,7 @@
 -- A file for each number that can be answered of PGM pictures and PFM maps. Definitions only.
 use Prim.Native.Nat.{ℕ}
 use mathlib.Core.Path.{_≡_}
-use mathlib.Core.Bool.{false}
 use mathlib.Core.List.{List, [], _∷_, _++_}
-use lib.IntN.{pos}
-use lib.Ieee.{Float, fin}
 use Rattle.lists.specs.Steps.{Or, is, refused}
 use Rattle.lists.specs.Writes.{roomFor, byteCount}
 use Rattle.lists.specs.Given.{writtenGiven}
@@ -12,9 +9,7 @@ use Rattle.netpbm.specs.Outcome.{cellsFor, sizeOf}
 use Rattle.netpbm.specs.Given.{Sides, sizeGiven}
 use Rattle.netpbm.specs.Pgm.{readPgm}
 use Rattle.netpbm.specs.Pfm.{pfmOf, readPfm}
-
-abbrev one : Float
-one = fin false 1 (pos 0)
+use Rattle.promises.specs.Floats.{one}
 
 -- `P5`, a comment `#c`, a width of one digit, 1 and a maximum of three digits, with LF between them and after them
 abbrev pub pgmHeader : ℕ → ℕ → ℕ → ℕ → List ℕ

@@ -9,14 +9,9 @@ use Rattle.volume.specs.declared.site.Site.{Site}
 use Rattle.lists.specs.Steps.{is, refused}
 use Rattle.volume.specs.Outcome.{shapeOf, heapOf, gridAfter}
 use Rattle.volume.specs.Given.{shapeGiven, heapGiven}
+use Rattle.promises.specs.Floats.{quarter, half}
 
--- a quarter of a metre, half a metre, and 128 metres
-abbrev pub quarter : Float
-quarter = fin false 1 (negsuc 1)
-
-abbrev pub half : Float
-half = fin false 1 (negsuc 0)
-
+-- 128 metres
 abbrev pub far : Float
 far = fin false 1 (pos 7)
 

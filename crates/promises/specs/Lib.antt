@@ -2,6 +2,7 @@
 pub mod Changes
 pub mod Demand
 pub mod Answered
+pub mod Floats
 pub mod Witnesses
 pub mod FileWitnesses
 pub mod HeapWitnesses

@@ -4,7 +4,7 @@ use Prim.Native.Nat.{ℕ, _+_, _*_}
 use mathlib.Core.Path.{_≡_}
 use mathlib.Core.Bool.{Bool, true, false}
 use mathlib.Core.List.{List, [], _∷_, _++_, map}
-use lib.IntN.{ℤ, pos, negsuc, natAbs}
+use lib.IntN.{ℤ, pos, negℤ, natAbs}
 use lib.Ieee.{Float, fin, nan, inf, binary32, binary64, ofBits}
 use Rattle.lists.specs.Steps.{Or, is, refused}
 use Rattle.lists.specs.Writes.{byteCount}
@@ -25,20 +25,21 @@ use Rattle.sheets.specs.declared.code.Kind.the-variants.{Whole}
 use Rattle.sheets.specs.Sheet.{sheetOf, takeHead, readSheet}
 use Rattle.sheets.specs.Outcome.{sizeSaid}
 use Rattle.sheets.specs.Given.{saidGiven}
-use Rattle.volume.specs.declared.site.Site.{Site}
 use Rattle.volume.specs.Metres.{goodCoordinate}
 use Rattle.volume.specs.Outcome as volume
 use Rattle.volume.specs.Given.{shapeGiven, heapGiven}
 use Rattle.promises.specs.FileWitnesses.{pgmSays, pfmSays}
+use Rattle.promises.specs.Floats.{plusZero, minusZero, one}
 
-abbrev one : Float
-one = fin false 1 (pos 0)
+-- minus n
+abbrev minus : ℕ → ℤ
+minus n = negℤ (pos n)
 
 -- ---- a match
 
--- a call for pictures w wide and h high with all their bytes: output, mode, first disparity, count, block side, both penalties alike, and so many cells lent
-abbrev callOf : Output → Bool → ℕ → ℕ → ℤ → ℤ → ℕ → Float → ℕ → ℕ → ℕ → Call
-callOf output mode w h first count block penalty out whole float = record {
+-- a call for pictures w wide and h high with all their bytes: output, mode, first disparity, count, block side, the two penalties, and so many cells lent
+abbrev callOf : Output → Bool → ℕ → ℕ → ℤ → ℤ → ℕ → Float → Float → ℕ → ℕ → ℕ → Call
+callOf output mode w h first count block p1 p2 out whole float = record {
   output = output;
   «left_w» = w;
   «left_h» = h;
@@ -50,21 +51,33 @@ callOf output mode w h first count block penalty out whole float = record {
   count = count;
   block = block;
   «semi_global» = mode;
-  p1 = penalty;
-  p2 = penalty;
+  p1 = p1;
+  p2 = p2;
   «out_len» = out;
   «whole_len» = whole;
   «float_len» = float;
 }
 
 -- a semi-global match whose output and rooms are exactly long enough
-abbrev matchOf : ℕ → ℕ → ℤ → ℤ → ℕ → Float → Call
-matchOf w h first count block penalty =
-    callOf Map true w h first count block penalty (w * h) (5 * ((w + 1) * (h + 1))) (3 * (natAbs count * (w * h)) + w * h)
+abbrev matchOf : ℕ → ℕ → ℤ → ℤ → ℕ → Float → Float → Call
+matchOf w h first count block p1 p2 =
+    callOf Map true w h first count block p1 p2 (w * h) (5 * ((w + 1) * (h + 1))) (3 * (natAbs count * (w * h)) + w * h)
+
+-- the f32 next below zero, minus zero, zero, 1,024, the f32 next above it, infinity and a NaN
+abbrev penalties : List Float
+penalties =
+    ofBits binary32 0x80000001
+    ∷ minusZero
+    ∷ plusZero
+    ∷ ofBits binary32 0x44800000
+    ∷ ofBits binary32 0x44800001
+    ∷ inf false
+    ∷ nan
+    ∷ []
 
 -- of pictures 5 wide and 3 high with two disparities: w·h is 15, V is 30
 abbrev lending : Output → Bool → ℕ → ℕ → ℕ → Call
-lending output mode out whole float = callOf output mode 5 3 (pos 0) (pos 2) 3 one out whole float
+lending output mode out whole float = callOf output mode 5 3 (pos 0) (pos 2) 3 one one out whole float
 
 -- ---- a picture
 
@@ -85,25 +98,25 @@ abbrev siteNumber : ℤ → ℤ → ℤ → ℤ → ℕ → ℤ → ℕ
 siteNumber left right top bottom cell floor =
     numberBack (shapeGiven (volume.shapeOf (record { left = left; right = right; top = top; bottom = bottom; cell = cell; floor = floor })))
 
--- of a square of that side from (0, 0) on, with cells of that side
-abbrev squareNumber : ℕ → ℕ → ℕ
-squareNumber side cell = siteNumber (pos 0) (pos side) (pos 0) (pos side) cell (pos 0)
+-- of a square that is one cell of that side
+abbrev cellNumber : ℕ → ℕ
+cellNumber side = siteNumber (pos 0) (pos side) (pos 0) (pos side) side (pos 0)
 
 -- of the largest square, from -100,000 to 100,000 mm, one edge or the floor of which is given
 abbrev leftNumber : ℤ → ℕ
-leftNumber z = siteNumber z (pos 100000) (negsuc 99999) (pos 100000) 10000 (pos 0)
+leftNumber z = siteNumber z (pos 100000) (minus 100000) (pos 100000) 10000 (pos 0)
 
 abbrev rightNumber : ℤ → ℕ
-rightNumber z = siteNumber (negsuc 99999) z (negsuc 99999) (pos 100000) 10000 (pos 0)
+rightNumber z = siteNumber (minus 100000) z (minus 100000) (pos 100000) 10000 (pos 0)
 
 abbrev topNumber : ℤ → ℕ
-topNumber z = siteNumber (negsuc 99999) (pos 100000) z (pos 100000) 10000 (pos 0)
+topNumber z = siteNumber (minus 100000) (pos 100000) z (pos 100000) 10000 (pos 0)
 
 abbrev bottomNumber : ℤ → ℕ
-bottomNumber z = siteNumber (negsuc 99999) (pos 100000) (negsuc 99999) z 10000 (pos 0)
+bottomNumber z = siteNumber (minus 100000) (pos 100000) (minus 100000) z 10000 (pos 0)
 
 abbrev floorNumber : ℤ → ℕ
-floorNumber z = siteNumber (negsuc 99999) (pos 100000) (negsuc 99999) (pos 100000) 10000 z
+floorNumber z = siteNumber (minus 100000) (pos 100000) (minus 100000) (pos 100000) 10000 z
 
 -- what is given back for a grid of m cells beside a site of two
 abbrev gridNumber : ℕ → ℕ
@@ -128,28 +141,27 @@ digits2048 = 50 ∷ 48 ∷ 52 ∷ 56 ∷ []
 abbrev digits2049 : List ℕ
 digits2049 = 50 ∷ 48 ∷ 52 ∷ 57 ∷ []
 
--- what is given back for the sheet of one cell in kind 0, which is the whole number z
+-- what is given back for the sheet of one cell in kind 0: its byte count
 abbrev wholeCell : Float → Or ℕ
 wholeCell x = writtenGiven (byteCount (sheetOf 0 1 1 (x ∷ [])))
 
 -- EVERY LIMIT, on both sides
 pub record LimitsHeld : Type 0 where
   -- a match: width and height from 1 to 2,048
-  pub widths : map (λ w. refusal (matchOf w 1 (pos 0) (pos 1) 1 one)) (0 ∷ 1 ∷ 2048 ∷ 2049 ∷ []) ≡ 1 ∷ 0 ∷ 0 ∷ 1 ∷ []
-  pub heights : map (λ h. refusal (matchOf 1 h (pos 0) (pos 1) 1 one)) (0 ∷ 1 ∷ 2048 ∷ 2049 ∷ []) ≡ 1 ∷ 0 ∷ 0 ∷ 1 ∷ []
-  pub largest : refusal (matchOf 2048 2048 (pos 0) (pos 256) 31 one) ≡ 0
+  pub widths : map (λ w. refusal (matchOf w 1 (pos 0) (pos 1) 1 one one)) (0 ∷ 1 ∷ 2048 ∷ 2049 ∷ []) ≡ 1 ∷ 0 ∷ 0 ∷ 1 ∷ []
+  pub heights : map (λ h. refusal (matchOf 1 h (pos 0) (pos 1) 1 one one)) (0 ∷ 1 ∷ 2048 ∷ 2049 ∷ []) ≡ 1 ∷ 0 ∷ 0 ∷ 1 ∷ []
+  pub largest : refusal (matchOf 2048 2048 (pos 0) (pos 256) 31 one one) ≡ 0
   -- the block's side: odd, from 1 to 31, and no wider or higher than the pictures
-  pub blocks : map (λ b. refusal (matchOf 40 40 (pos 0) (pos 1) b one)) (0 ∷ 1 ∷ 31 ∷ 32 ∷ 33 ∷ []) ≡ 4 ∷ 0 ∷ 0 ∷ 4 ∷ 5 ∷ []
-  pub as-wide : map (λ w. refusal (matchOf w 40 (pos 0) (pos 1) 31 one)) (30 ∷ 31 ∷ []) ≡ 8 ∷ 0 ∷ []
-  pub as-high : map (λ h. refusal (matchOf 40 h (pos 0) (pos 1) 31 one)) (30 ∷ 31 ∷ []) ≡ 8 ∷ 0 ∷ []
+  pub blocks : map (λ b. refusal (matchOf 40 40 (pos 0) (pos 1) b one one)) (0 ∷ 1 ∷ 31 ∷ 32 ∷ 33 ∷ []) ≡ 4 ∷ 0 ∷ 0 ∷ 4 ∷ 5 ∷ []
+  pub as-wide : map (λ w. refusal (matchOf w 40 (pos 0) (pos 1) 31 one one)) (30 ∷ 31 ∷ []) ≡ 8 ∷ 0 ∷ []
+  pub as-high : map (λ h. refusal (matchOf 40 h (pos 0) (pos 1) 31 one one)) (30 ∷ 31 ∷ []) ≡ 8 ∷ 0 ∷ []
   -- how many disparities: from 1 to 256
-  pub counts : map (λ n. refusal (matchOf 3 3 (pos 0) n 3 one)) (negsuc 0 ∷ pos 0 ∷ pos 1 ∷ pos 256 ∷ pos 257 ∷ []) ≡ 6 ∷ 6 ∷ 0 ∷ 0 ∷ 7 ∷ []
+  pub counts : map (λ n. refusal (matchOf 3 3 (pos 0) n 3 one one)) (minus 1 ∷ pos 0 ∷ pos 1 ∷ pos 256 ∷ pos 257 ∷ []) ≡ 6 ∷ 6 ∷ 0 ∷ 0 ∷ 7 ∷ []
   -- the first disparity: from -4,096 to 4,096
-  pub firsts : map (λ z. refusal (matchOf 3 3 z (pos 1) 3 one)) (negsuc 4096 ∷ negsuc 4095 ∷ pos 4096 ∷ pos 4097 ∷ []) ≡ 9 ∷ 0 ∷ 0 ∷ 9 ∷ []
-  -- a penalty: the largest f32 below zero, minus zero, zero, 1,024, the next f32, infinity and a NaN
-  pub penalties : map (λ p. refusal (matchOf 3 3 (pos 0) (pos 1) 3 p))
-      (ofBits binary32 0x80000001 ∷ ofBits binary32 0x80000000 ∷ ofBits binary32 0 ∷ ofBits binary32 0x44800000 ∷ ofBits binary32 0x44800001 ∷ inf false ∷ nan ∷ [])
-      ≡ 10 ∷ 0 ∷ 0 ∷ 0 ∷ 10 ∷ 10 ∷ 10 ∷ []
+  pub firsts : map (λ z. refusal (matchOf 3 3 z (pos 1) 3 one one)) (minus 4097 ∷ minus 4096 ∷ pos 4096 ∷ pos 4097 ∷ []) ≡ 9 ∷ 0 ∷ 0 ∷ 9 ∷ []
+  -- either penalty: from 0 to 1,024, and minus zero
+  pub penalties-1 : map (λ p. refusal (matchOf 3 3 (pos 0) (pos 1) 3 p one)) penalties ≡ 10 ∷ 0 ∷ 0 ∷ 0 ∷ 10 ∷ 10 ∷ 10 ∷ []
+  pub penalties-2 : map (λ p. refusal (matchOf 3 3 (pos 0) (pos 1) 3 one p)) penalties ≡ 10 ∷ 0 ∷ 0 ∷ 0 ∷ 10 ∷ 10 ∷ 10 ∷ []
   -- the output: w·h cells of a map, V of a raw volume
   pub outputs : map (λ n. refusal (lending Map true n 120 105)) (14 ∷ 15 ∷ 16 ∷ []) ≡ 11 ∷ 0 ∷ 11 ∷ []
   pub volumes : map (λ n. refusal (lending Volume false n 120 0)) (29 ∷ 30 ∷ 31 ∷ []) ≡ 11 ∷ 0 ∷ 11 ∷ []
@@ -187,13 +199,13 @@ pub record LimitsHeld : Type 0 where
   pub pgm-sides : map pgmSays (pgmSized digits2048 digits2048 ∷ pgmSized digits2049 digits1 ∷ pgmSized digits1 digits2049 ∷ []) ≡ refused 44 ∷ refused 43 ∷ refused 43 ∷ []
   pub pfm-sides : map pfmSays (pfmSized digits2048 digits2048 ∷ pfmSized digits2049 digits1 ∷ pfmSized digits1 digits2049 ∷ []) ≡ refused 44 ∷ refused 43 ∷ refused 43 ∷ []
   -- a heap: the side of a cell, from 10 to 10,000 mm
-  pub cell-sides : map (λ c. squareNumber c c) (9 ∷ 10 ∷ 10000 ∷ 10001 ∷ []) ≡ 51 ∷ 0 ∷ 0 ∷ 51 ∷ []
+  pub cell-sides : map cellNumber (9 ∷ 10 ∷ 10000 ∷ 10001 ∷ []) ≡ 51 ∷ 0 ∷ 0 ∷ 51 ∷ []
   -- edges and floor, from -100,000 to 100,000 mm
-  pub lefts : map leftNumber (negsuc 100000 ∷ negsuc 99999 ∷ []) ≡ 52 ∷ 0 ∷ []
+  pub lefts : map leftNumber (minus 100001 ∷ minus 100000 ∷ []) ≡ 52 ∷ 0 ∷ []
   pub rights : map rightNumber (pos 100000 ∷ pos 100001 ∷ []) ≡ 0 ∷ 52 ∷ []
-  pub tops : map topNumber (negsuc 100000 ∷ negsuc 99999 ∷ []) ≡ 52 ∷ 0 ∷ []
+  pub tops : map topNumber (minus 100001 ∷ minus 100000 ∷ []) ≡ 52 ∷ 0 ∷ []
   pub bottoms : map bottomNumber (pos 100000 ∷ pos 100001 ∷ []) ≡ 0 ∷ 52 ∷ []
-  pub floors : map floorNumber (negsuc 100000 ∷ negsuc 99999 ∷ pos 100000 ∷ pos 100001 ∷ []) ≡ 52 ∷ 0 ∷ 0 ∷ 52 ∷ []
+  pub floors : map floorNumber (minus 100001 ∷ minus 100000 ∷ pos 100000 ∷ pos 100001 ∷ []) ≡ 52 ∷ 0 ∷ 0 ∷ 52 ∷ []
   -- a coordinate of 100 m, of 100.0004 m, which is 100,000 mm too, and of 100.0006 m; the test of one coordinate
   pub coordinates : map goodCoordinate (ofBits binary64 0x4059000000000000 ∷ ofBits binary64 0x405900068db8bac7 ∷ ofBits binary64 0x40590009d495182b ∷ []) ≡ true ∷ true ∷ false ∷ []
   -- 256 by 256 cells are 65,536; one row more

@@ -4,8 +4,7 @@ use mathlib.Core.Path.{_≡_}
 use mathlib.Core.Bool.{true, false}
 use mathlib.Core.Option.{none, some}
 use mathlib.Core.List.{List, [], _∷_}
-use lib.IntN.{pos}
-use lib.Ieee.{Float, nan, fin, inf}
+use lib.Ieee.{Float, nan, inf}
 use Rattle.maps.specs.declared.Cell.{Cell}
 use Rattle.maps.specs.declared.Cell.the-variants.{Mark, At}
 use Rattle.rows.specs.declared.RowRecord.{RowRecord}
@@ -13,16 +12,7 @@ use Rattle.rows.specs.declared.Edit.{Edit}
 use Rattle.maps.specs.Given.{rangeGiven}
 use Rattle.rows.specs.Index.{rangeIn, freshIndex, freshRefusal, editRefusal}
 use Rattle.rows.specs.Runs.{fresh, run}
-
--- minus 1, 2 and 5
-abbrev pub minusOne : Float
-minusOne = fin true 1 (pos 0)
-
-abbrev pub two : Float
-two = fin false 1 (pos 1)
-
-abbrev pub five : Float
-five = fin false 5 (pos 0)
+use Rattle.promises.specs.Floats.{minusOne, two, five}
 
 -- 3 wide and 2 high: 2, blank and 5; infinity, which is not valid, minus 1 and minus 1
 abbrev pub sixCells : List Float

@@ -1,11 +1,11 @@
 -- A pair and a vendor's map for each number and each verdict that can be answered of a check. Definitions only.
 use Prim.Native.Nat.{ℕ}
 use mathlib.Core.Path.{_≡_}
-use mathlib.Core.Bool.{true, false}
+use mathlib.Core.Bool.{false}
 use mathlib.Core.List.{List, [], _∷_, _++_}
-use lib.IntN.{ℤ, pos, negsuc}
+use lib.IntN.{ℤ, pos}
 use lib.ListN.{replicate}
-use lib.Ieee.{Float, nan, inf, fin}
+use lib.Ieee.{Float, nan, inf}
 use Rattle.options.specs.declared.BlockMatchOptions.{BlockMatchOptions}
 use Rattle.options.specs.Options.{defaultOptions}
 use Rattle.refusals.specs.declared.Call.{Call}
@@ -13,6 +13,7 @@ use Rattle.lists.specs.Steps.{Or, is, refused}
 use Rattle.vendor.specs.Verdict.{checkOf, verdictOf}
 use Rattle.vendor.specs.Outcome.{vendorCall, vendorRefusal, answerOf}
 use Rattle.vendor.specs.Given.{YesNo, yes, no, verdictGiven}
+use Rattle.promises.specs.Floats.{plusZero, minusZero, half, one, minusOne, two}
 
 -- the first disparity, the count, the block's side and the least correlation; the rest as where none are given
 abbrev pub searching : ℤ → ℤ → ℕ → Float → BlockMatchOptions
@@ -29,24 +30,6 @@ searching first count block least = record {
   «sgm_p1» = defaultOptions .«sgm_p1»;
   «sgm_p2» = defaultOptions .«sgm_p2»;
 }
-
-abbrev pub plusZero : Float
-plusZero = fin false 0 (pos 0)
-
-abbrev pub minusZero : Float
-minusZero = fin true 0 (pos 0)
-
-abbrev pub half : Float
-half = fin false 1 (negsuc 0)
-
-abbrev pub one : Float
-one = fin false 1 (pos 0)
-
-abbrev pub minusOne : Float
-minusOne = fin true 1 (pos 0)
-
-abbrev pub two : Float
-two = fin false 1 (pos 1)
 
 -- a left picture of nine bytes, so wide and so high, beside a right one of 3 by 3, and a room
 abbrev pub asked : ℕ → ℕ → List ℕ → ℤ → ℤ → ℕ → ℕ → Call

@@ -26,6 +26,7 @@ use Rattle.lists.specs.Writes.{roomFor, byteCount}
 use Rattle.lists.specs.Given.{writtenGiven}
 use Rattle.sheets.specs.Outcome.{cellsFor, sizeSaid}
 use Rattle.sheets.specs.Given.{SheetIs, saidGiven}
+use Rattle.promises.specs.Floats.{plusZero, minusZero, one}
 
 -- a match of a left picture w wide and 3 high with so many bytes and a right one likewise, the first disparity, count, block side and
 -- mode, a penalty, and the lengths of the output and of the whole-number room; penalty p2 is 1, and the float room has 105 cells
@@ -43,14 +44,11 @@ matchOf w bytes w′ bytes′ first count block mode p1 out whole = record {
   block = block;
   «semi_global» = mode;
   p1 = p1;
-  p2 = fin false 1 (pos 0);
+  p2 = one;
   «out_len» = out;
   «whole_len» = whole;
   «float_len» = 105;
 }
-
-abbrev one : Float
-one = fin false 1 (pos 0)
 
 -- one that is accepted, and then one for each of the numbers 1 to 12, which differs from the first in what its row names
 abbrev pub calls : List Call
@@ -72,7 +70,7 @@ calls =
 
 -- a camera with this fx and baseline; fy 1, cx and cy 0
 abbrev cameraOf : Float → Float → Intrinsics
-cameraOf fx baseline = record { fx = fx; fy = one; cx = fin false 0 (pos 0); cy = fin false 0 (pos 0); baseline = baseline }
+cameraOf fx baseline = record { fx = fx; fy = one; cx = plusZero; cy = plusZero; baseline = baseline }
 
 -- the sheet of one cell, 1, in kind 0
 abbrev oneSheet : List ℕ
@@ -111,11 +109,11 @@ pub record Reached : Type 0 where
   pub cover-23 : numberGiven (coverOf 1 1 (one ∷ one ∷ [])) ≡ refused 23
   pub cover-is : numberGiven (coverOf 2 1 (one ∷ nan ∷ [])) ≡ is 500
   -- the point of a disparity 0 and of 1 at (1, 1)
-  pub point-none : pointGiven (pointOf (cameraOf one one) one one (fin false 0 (pos 0))) ≡ none
+  pub point-none : pointGiven (pointOf (cameraOf one one) one one plusZero) ≡ none
   pub point-is : pointGiven (pointOf (cameraOf one one) one one one) ≡ some (record { x = one; y = one; z = one })
   -- the points of one cell: fx a NaN, a baseline of 0, a cell too many, and a list without room
   pub points-21 : filledGiven (answerOf 1 1 (one ∷ []) (cameraOf nan one) 1) ≡ refused 21
-  pub points-22 : filledGiven (answerOf 1 1 (one ∷ []) (cameraOf one (fin false 0 (pos 0))) 1) ≡ refused 22
+  pub points-22 : filledGiven (answerOf 1 1 (one ∷ []) (cameraOf one plusZero) 1) ≡ refused 22
   pub points-23 : filledGiven (answerOf 1 1 (one ∷ one ∷ []) (cameraOf one one) 1) ≡ refused 23
   pub points-24 : filledGiven (answerOf 1 1 (one ∷ []) (cameraOf one one) 0) ≡ refused 24
   pub points-is : filledGiven (answerOf 1 1 (one ∷ []) (cameraOf one one) 1) ≡ is 1
@@ -123,7 +121,7 @@ pub record Reached : Type 0 where
   pub write-23 : writtenGiven (byteCount (sheetOf 0 1 1 (one ∷ one ∷ []))) ≡ refused 23
   pub write-35 : writtenGiven (byteCount (sheetOf 2 1 1 (one ∷ []))) ≡ refused 35
   pub write-31 : writtenGiven (byteCount (sheetOf 1 1 1 (inf true ∷ []))) ≡ refused 31
-  pub write-32 : writtenGiven (byteCount (sheetOf 0 1 1 (fin true 0 (pos 0) ∷ []))) ≡ refused 32
+  pub write-32 : writtenGiven (byteCount (sheetOf 0 1 1 (minusZero ∷ []))) ≡ refused 32
   pub write-33 : writtenGiven (byteCount (roomFor 33 4 (sheetOf 0 1 1 (one ∷ [])))) ≡ refused 33
   pub write-is : writtenGiven (byteCount (roomFor 33 5 (sheetOf 0 1 1 (one ∷ [])))) ≡ is 5
   pub written : sheetOf 0 1 1 (one ∷ []) ≡ is oneSheet
