@@ -8,7 +8,7 @@ use lib.Dec.{T}
 use lib.ListN.{length, getD}
 use lib.Ieee.{Float, nan, inf, fin, binary32, lt, le, eq, sub, add, neg}
 use lib.Ieee.Scale.{finite}
-use Rattle.lists.specs.Lists.{listOf, walk}
+use Rattle.lists.specs.Lists.{listOf}
 use Rattle.lists.proofs.Lists.{listOf-length, listOf-at}
 use Rattle.numbers.proofs.Plainly.{none-below, none-above}
 use Rattle.options.specs.declared.RawCost.{RawCost}

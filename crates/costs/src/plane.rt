@@ -80,7 +80,7 @@ fn raw_span(
 }
 
 // Row y of the plane.
-pub fn raw_row(row: &mut [f32], room: &[u64], w: usize, h: usize, r: usize, y: usize, shift: i64)
+fn raw_row(row: &mut [f32], room: &[u64], w: usize, h: usize, r: usize, y: usize, shift: i64)
     requires { ⌜ Ready (now room) w h r shift × (natAbs shift ≤ shiftMost) × (y < h) × (length (now row) ≡ w) ⌝ }
     ensures { λ _. ⌜ ((a b : List ℕ) → RoomOf (now (room .entry)) w h r shift a b → now (row .exit) ≡ rowCells w h r a b shift y) ⌝ }
 {

@@ -11,7 +11,7 @@ use windows::variance;
 use windows::window_sum;
 
 // The bits of the root of a variance, 0 for 0.
-pub fn root_bits(variance: u64) -> u64
+fn root_bits(variance: u64) -> u64
     requires { ⌜ variance ≤ 2 ^ 53 ⌝ }
     ensures { λ r. ⌜ r ≡ rootBits variance ⌝ }
 {
@@ -23,7 +23,7 @@ pub fn root_bits(variance: u64) -> u64
 }
 
 // The sum of the levels of the window whose top left corner is cell i, 0 where none fits.
-pub fn sum_at(pair: &[u64], w: usize, h: usize, r: usize, i: usize) -> u64
+fn sum_at(pair: &[u64], w: usize, h: usize, r: usize, i: usize) -> u64
     requires { ⌜ Turned (now pair) w h r i ⌝ }
     ensures { λ v. ⌜ ((pic : List ℕ) → Turning (now (pair .entry)) w h i pic → v ≡ windowCell w h r (sumIn w r pic) i) ⌝ }
 {
@@ -40,7 +40,7 @@ pub fn sum_at(pair: &[u64], w: usize, h: usize, r: usize, i: usize) -> u64
 }
 
 // The bits of the root of the variance of the window whose top left corner is cell i, 0 where none fits.
-pub fn root_at(pair: &[u64], w: usize, h: usize, r: usize, i: usize) -> u64
+fn root_at(pair: &[u64], w: usize, h: usize, r: usize, i: usize) -> u64
     requires { ⌜ Turned (now pair) w h r i ⌝ }
     ensures { λ v. ⌜ ((pic : List ℕ) → Turning (now (pair .entry)) w h i pic → v ≡ windowCell w h r (rootIn w r pic) i) ⌝ }
 {

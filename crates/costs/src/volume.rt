@@ -40,7 +40,7 @@ pub fn shift_at(side: Side, first: i64, k: usize) -> i64
 }
 
 // The planes of all indices, from the tables of the two pictures; the products' table is filled anew for each.
-pub fn fill_planes(out: &mut [f32], room: &mut [u64], a: &[u8], b: &[u8], plan: Plan)
+fn fill_planes(out: &mut [f32], room: &mut [u64], a: &[u8], b: &[u8], plan: Plan)
     requires { ⌜ Tabled (length (now out)) (now room) (now a) (now b) (plan .w) (plan .h) (plan .r) (plan .first) (plan .count) ⌝ }
     ensures { λ _. ⌜ (now (out .exit) ≡ planesOf (plan .side) (plan .w) (plan .h) (plan .r) (plan .first) (plan .count) (now (a .entry)) (now (b .entry))) × (drop (5 * cells (plan .w) (plan .h)) (now (room .exit)) ≡ drop (5 * cells (plan .w) (plan .h)) (now (room .entry))) ⌝ }
 {
@@ -66,7 +66,7 @@ pub fn fill_planes(out: &mut [f32], room: &mut [u64], a: &[u8], b: &[u8], plan: 
 }
 
 // The raw volume of the reference a and the target b; the room's cells that were needed are zero afterwards.
-pub fn make_volume(out: &mut [f32], room: &mut [u64], a: &[u8], b: &[u8], plan: Plan)
+fn make_volume(out: &mut [f32], room: &mut [u64], a: &[u8], b: &[u8], plan: Plan)
     requires { ⌜ Sized (length (now out)) (length (now room)) (now a) (now b) (plan .w) (plan .h) (plan .r) (plan .first) (plan .count) ⌝ }
     ensures { λ _. ⌜ (now (out .exit) ≡ planesOf (plan .side) (plan .w) (plan .h) (plan .r) (plan .first) (plan .count) (now (a .entry)) (now (b .entry))) × (now (room .exit) ≡ cleared 0 (5 * cells (plan .w) (plan .h)) (now (room .entry))) ⌝ }
 {

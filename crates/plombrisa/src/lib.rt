@@ -8,7 +8,7 @@ pub mod picture;
 pub mod point;
 pub mod row;
 pub mod sheet;
-pub mod told;
+mod told;
 
 ghost use mathlib.Core.Path.{_≡_};
 ghost use lib.ListN.{length};

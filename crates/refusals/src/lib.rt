@@ -40,7 +40,7 @@ pub struct Call {
 }
 
 // Width and height are in their range.
-pub fn in_range(w: usize, h: usize) -> bool
+fn in_range(w: usize, h: usize) -> bool
     ensures { λ t. ⌜ t ≡ inRange w h ⌝ }
 {
     if is_side(w) { is_side(h) } else { false }
@@ -114,7 +114,7 @@ pub fn pair_refusal(call: Call) -> u32
 }
 
 // A number from 0 to the largest penalty.
-pub fn is_penalty(p: f32) -> bool
+fn is_penalty(p: f32) -> bool
     ensures { λ t. ⌜ t ≡ isPenalty p ⌝ }
 {
     if 0.0 <= p { p <= PENALTY_MOST } else { false }

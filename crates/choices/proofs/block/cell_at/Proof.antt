@@ -1,9 +1,7 @@
 -- `choices::block::cell_at` meets its contract. Assumes nothing.
-use Prim.Native.Nat.{_-_}
-use mathlib.Core.Path.{_≡_, _∙_, refl, sym, ap}
+use mathlib.Core.Path.{_∙_, ap}
 use native.Mathlib.Omega.{arith}
 use denote.Ref.{now}
-use lib.ListN.{length}
 use borrow.Author.Needs.{needs}
 use Rattle.options.specs.Costs.{rawOf}
 use Rattle.choices.proofs.Costs.{blank-is}

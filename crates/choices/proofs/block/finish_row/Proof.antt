@@ -1,9 +1,8 @@
 -- `choices::block::finish_row` meets its contract. Assumes nothing.
 use Prim.Native.Nat.{_-_}
-use mathlib.Core.Path.{_≡_, sym, _∙_, ap}
+use mathlib.Core.Path.{sym, _∙_, ap}
 use native.Mathlib.Omega.{arith}
 use lib.ListN.{length}
-use denote.Ref.{now}
 use borrow.Author.Needs.{needs}
 use Rattle.options.specs.Costs.{rawOf}
 use Rattle.maps.specs.Cells.{inBuffer}

@@ -1,9 +1,8 @@
 -- `costs::raw::summed_cost` meets its contract: each cell that is read is one that the tables of the two pictures have there. Assumes nothing.
 use Prim.Native.Nat.{_+_, _*_, _≤_}
-use mathlib.Core.Path.{_≡_, ap, _∙_}
+use mathlib.Core.Path.{_∙_}
 use native.Mathlib.Nat.{mul-le-mul}
 use native.Mathlib.Omega.{arith}
-use lib.Ieee.{binary64, ofInt}
 use Rattle.costs.proofs.PairCosts.{spots, sums-counted, cov-is, cost-is}
 use Rattle.costs.proofs.Quotients.{divisible}
 use borrow.Author.Needs.{needs}
