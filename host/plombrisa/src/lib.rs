@@ -2,10 +2,12 @@
 //! crates/plombrisa/src; nothing checks these declarations against them but the differential runs, the sheets' run, Netpbm's, the
 //! volume's, the row index's and the vendor's.
 
+pub mod limits;
 mod maps;
 mod netpbm;
 mod pictures;
 mod points;
+mod refusal;
 mod rows;
 mod sheets;
 mod vendor;
@@ -18,10 +20,13 @@ pub use netpbm::{
 };
 pub use pictures::{bilinear, bilinear_in, pixel, pixel_in};
 pub use points::{Intrinsics, PointRecord, points, points_in, rectified_point, rectified_point_in};
+pub use refusal::Refusal;
 pub use rows::{RowIndex, RowRecord, edit_cell_in, fresh_index_in};
 pub use sheets::{Kind, Sheet, read_sheet, read_sheet_in, sheet_length_in, sheet_size_in, write_sheet, write_sheet_in};
 pub use vendor::{Verdict, check_vendor, check_vendor_in};
 pub use volume::{Figures, Heap, Site, heap_shape, heap_shape_in, heap_volume, heap_volume_in};
+
+use limits::{COUNT_MOST, SIDE_MOST};
 
 mod raw {
     use crate::{PointRecord, RowRecord};
@@ -186,125 +191,6 @@ impl Default for Options {
     }
 }
 
-/// Why a call was refused: the rows of the table of document 01, and 28, which the row index added, from 31 those that sheets, from
-/// 41 those that PGM and PFM files and from 51 those that the heap's volume added, each with its number.
-#[derive(Debug, Clone, Copy, PartialEq, Eq)]
-#[repr(u32)]
-pub enum Refusal {
-    SizeOutOfRange = 1,
-    ByteCount = 2,
-    SizesDiffer = 3,
-    BlockEven = 4,
-    BlockTooLarge = 5,
-    CountNotPositive = 6,
-    CountTooLarge = 7,
-    PictureSmallerThanBlock = 8,
-    FirstOutOfRange = 9,
-    PenaltyOutOfRange = 10,
-    OutputLength = 11,
-    RoomTooShort = 12,
-    CameraOutOfRange = 21,
-    BaselineOutOfRange = 22,
-    MapSize = 23,
-    ListTooShort = 24,
-    CoordinateNan = 25,
-    PixelOutside = 26,
-    IndexLength = 28,
-    CellInfinite = 31,
-    CellNotWhole = 32,
-    OutputTooShort = 33,
-    NumberUnfit = 34,
-    VersionOrKindUnknown = 35,
-    SheetSize = 36,
-    CellNumber = 37,
-    BytesLeftOver = 38,
-    FileHeader = 41,
-    FileMaximum = 42,
-    FileSize = 43,
-    FileData = 44,
-    FileOutput = 45,
-    CellSide = 51,
-    DistanceOutOfRange = 52,
-    RectangleSides = 53,
-    TooManyCells = 54,
-    GridLength = 55,
-}
-
-impl Refusal {
-    pub fn number(self) -> u32 {
-        self as u32
-    }
-
-    /// The refusal with a number of the table.
-    pub fn of_number(number: u32) -> Option<Self> {
-        use Refusal::*;
-        let all = [
-            SizeOutOfRange, ByteCount, SizesDiffer, BlockEven, BlockTooLarge, CountNotPositive, CountTooLarge,
-            PictureSmallerThanBlock, FirstOutOfRange, PenaltyOutOfRange, OutputLength, RoomTooShort,
-            CameraOutOfRange, BaselineOutOfRange, MapSize, ListTooShort, CoordinateNan, PixelOutside, IndexLength,
-            CellInfinite, CellNotWhole, OutputTooShort, NumberUnfit, VersionOrKindUnknown, SheetSize, CellNumber, BytesLeftOver,
-            FileHeader, FileMaximum, FileSize, FileData, FileOutput,
-            CellSide, DistanceOutOfRange, RectangleSides, TooManyCells, GridLength,
-        ];
-        all.into_iter().find(|refusal| refusal.number() == number)
-    }
-
-    /// The reason in words, for a person who is told the number.
-    pub fn reason(self) -> &'static str {
-        use Refusal::*;
-        match self {
-            SizeOutOfRange => "a picture's width or height is outside 1 to 2,048",
-            ByteCount => "a picture's byte count is not its width times its height",
-            SizesDiffer => "the two pictures are not of one size",
-            BlockEven => "the block's side is zero or even",
-            BlockTooLarge => "the block's side is over 31",
-            CountNotPositive => "the number of disparities is zero or negative",
-            CountTooLarge => "the number of disparities is over 256",
-            PictureSmallerThanBlock => "the pictures are narrower or lower than the block",
-            FirstOutOfRange => "the first disparity is outside -4,096 to 4,096",
-            PenaltyOutOfRange => "a penalty is not finite or outside 0 to 1,024",
-            OutputLength => "the output's length does not fit",
-            RoomTooShort => "a room is too short",
-            CameraOutOfRange => "fx or fy is not finite and positive, or cx or cy is not finite",
-            BaselineOutOfRange => "the baseline is not finite or not over 1e-12",
-            MapSize => "the map's width or height is outside 1 to 2,048 or not the pictures', or its length does not fit them",
-            ListTooShort => "the list is shorter than the points to write",
-            CoordinateNan => "a coordinate is NaN",
-            PixelOutside => "the pixel is outside the picture or the map",
-            IndexLength => "the index's length is not the number of rows",
-            CellInfinite => "a cell is infinite",
-            CellNotWhole => "a cell is minus zero, a fraction, or outside -8,192 to 8,192",
-            OutputTooShort => "the output is too short for the sheet",
-            NumberUnfit => "a number of the sheet is cut, not in its shortest form, or has more than five groups",
-            VersionOrKindUnknown => "the sheet's version or kind is unknown",
-            SheetSize => "the sheet's width or height is outside 1 to 2,048",
-            CellNumber => "the sheet has a number that no cell has",
-            BytesLeftOver => "the sheet has bytes left over",
-            FileHeader => "the file's header is not one of its format",
-            FileMaximum => "the file's maximum is not 255",
-            FileSize => "the file's width or height is outside 1 to 2,048",
-            FileData => "the file's data are cut, or bytes are left over",
-            FileOutput => "the output's length does not fit the file",
-            CellSide => "the cell's side is outside 10 to 10,000 mm",
-            DistanceOutOfRange => {
-                "a coordinate is not finite, or it, an edge or the floor's depth is over 100,000 mm in size, or the coordinates' lists \
-                 are not of one length"
-            }
-            RectangleSides => "the rectangle's sides are not positive whole multiples of the cell's",
-            TooManyCells => "the rectangle has more than 65,536 cells",
-            GridLength => "the grid's length is not the number of cells",
-        }
-    }
-}
-
-impl std::fmt::Display for Refusal {
-    fn fmt(&self, f: &mut std::fmt::Formatter) -> std::fmt::Result {
-        f.write_str(self.reason())
-    }
-}
-
-impl std::error::Error for Refusal {}
-
 fn answer(number: u32) -> Result<(), Refusal> {
     match number {
         0 => Ok(()),
@@ -343,8 +229,8 @@ pub fn match_block_in(
 
 /// A match with rooms of its own: the map, a NaN for each blank cell.
 pub fn match_block(left: Picture, right: Picture, options: &Options) -> Result<Vec<f32>, Refusal> {
-    let (w, h) = (left.width.min(2048), left.height.min(2048));
-    let count = options.num_disparities.clamp(0, 256) as usize;
+    let (w, h) = (left.width.min(SIDE_MOST), left.height.min(SIDE_MOST));
+    let count = options.num_disparities.clamp(0, COUNT_MOST) as usize;
     let mut out = vec![0.0; w * h];
     let mut whole_room = vec![0; whole_cells(w, h)];
     let mut float_room = vec![0.0; float_cells(w, h, count, options.semi_global)];

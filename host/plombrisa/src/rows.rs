@@ -15,6 +15,7 @@
 //! assert_eq!(index.edit(&mut cells, 3, 0, None), Err(Refusal::PixelOutside));
 //! assert_eq!(Ok(index.valid_count()), valid_count(Map { cells: &cells, width: 3, height: 2 }));
 //! ```
+use crate::limits::SIDE_MOST;
 use crate::{Map, Refusal, answer, raw};
 
 /// What the index holds of one row: how many of its cells are valid, and the least and the greatest of those, which are NaN, the
@@ -73,7 +74,7 @@ pub struct RowIndex {
 impl RowIndex {
     /// The index of a map, worked out from its cells.
     pub fn fresh(map: Map) -> Result<Self, Refusal> {
-        let mut records = vec![RowRecord::default(); map.height.min(2048)];
+        let mut records = vec![RowRecord::default(); map.height.min(SIDE_MOST)];
         fresh_index_in(map, &mut records)?;
         Ok(Self { width: map.width, records })
     }

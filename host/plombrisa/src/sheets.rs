@@ -16,7 +16,8 @@
 //! ```
 use crate::{Map, Refusal, answer, raw};
 
-/// What the cells of a sheet are: whole disparities from -8,192 to 8,192, or any finite f32, each with its bits.
+/// What the cells of a sheet are: whole disparities, to [`WHOLE_MOST`](crate::limits::WHOLE_MOST) either way, or any finite f32, each
+/// with its bits.
 #[derive(Debug, Clone, Copy, PartialEq, Eq)]
 #[repr(u64)]
 pub enum Kind {

@@ -22,6 +22,7 @@
 //! assert_eq!(check(&cells), Ok(Verdict::No { x: 3, y: 1 }));
 //! assert_eq!(check(&cells[..14]), Err(Refusal::MapSize));
 //! ```
+use crate::limits::SIDE_MOST;
 use crate::{Map, Options, Picture, Refusal, answer, raw, whole_cells};
 
 /// What a check answers: that every cell passes, or the first by rows that does not.
@@ -50,7 +51,7 @@ pub fn check_vendor_in(
 
 /// The verdict on a vendor's map, with a room of its own.
 pub fn check_vendor(left: Picture, right: Picture, options: &Options, map: Map) -> Result<Verdict, Refusal> {
-    let (w, h) = (left.width.min(2048), left.height.min(2048));
+    let (w, h) = (left.width.min(SIDE_MOST), left.height.min(SIDE_MOST));
     let mut whole_room = vec![0; whole_cells(w, h)];
     let (mut passed, mut x, mut y) = (0, 0, 0);
     check_vendor_in(left, right, options, map, &mut whole_room, &mut passed, &mut x, &mut y)?;
