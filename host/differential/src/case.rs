@@ -1,7 +1,9 @@
 //! One call: two pictures, options, and what is lent.
-use runs::pictures::{other_picture, picture, textured_pair};
-use runs::rng::Rng;
 use plombrisa::{Options, float_cells, whole_cells};
+use runs::limits::{BLOCK_MOST, COUNT_MOST, FIRST_MOST, PENALTY_MOST, SIDE_MOST};
+use runs::pictures::{other_picture, picture, textured_pair};
+use runs::refusals::{LentPicture, Pair, first_of};
+use runs::rng::Rng;
 
 #[derive(Debug, Clone)]
 pub struct Case {
@@ -26,16 +28,19 @@ impl Case {
     }
 
     fn count(&self) -> usize {
-        self.options.num_disparities.clamp(0, 256) as usize
+        self.options.num_disparities.clamp(0, COUNT_MOST) as usize
     }
 
     fn lent(needed: usize, spare: isize) -> usize {
         needed.saturating_add_signed(spare)
     }
 
+    fn out_needed(&self, volume: bool) -> usize {
+        if volume { self.count() * self.area() } else { self.area() }
+    }
+
     pub fn out_len(&self, volume: bool) -> usize {
-        let needed = if volume { self.count() * self.area() } else { self.area() };
-        Self::lent(needed, self.spare.0)
+        Self::lent(self.out_needed(volume), self.spare.0)
     }
 
     pub fn whole_needed(&self) -> usize {
@@ -58,47 +63,17 @@ impl Case {
     /// volume is asked for, which skips 10 and needs no float room.
     pub fn refusal(&self, volume: bool) -> u32 {
         let o = &self.options;
-        let ((w, h), (rw, rh)) = (self.left_size, self.right_size);
-        let side = |n: usize| (1..=2048).contains(&n);
-        if !(side(w) && side(h) && side(rw) && side(rh)) {
-            return 1;
+        let of = |bytes: &[u8], (width, height): (usize, usize)| LentPicture { width, height, bytes: bytes.len() };
+        let (left, right) = (of(&self.left, self.left_size), of(&self.right, self.right_size));
+        let pair = Pair { left, right, block: o.block_size, count: o.num_disparities, first: o.min_disparity };
+        let fit = |p: f32| p.is_finite() && (0.0..=PENALTY_MOST).contains(&p);
+        let penalties = volume || !o.semi_global || (fit(o.sgm_p1) && fit(o.sgm_p2));
+        let output = self.out_len(volume) == self.out_needed(volume);
+        let rooms = self.whole_len() >= self.whole_needed() && (volume || self.float_len() >= self.float_needed());
+        match pair.refusal() {
+            0 => first_of(&[(10, !penalties), (11, !output), (12, !rooms)]),
+            number => number,
         }
-        if self.left.len() != w * h || self.right.len() != rw * rh {
-            return 2;
-        }
-        if w != rw || h != rh {
-            return 3;
-        }
-        if o.block_size.is_multiple_of(2) {
-            return 4;
-        }
-        if o.block_size > 31 {
-            return 5;
-        }
-        if o.num_disparities <= 0 {
-            return 6;
-        }
-        if o.num_disparities > 256 {
-            return 7;
-        }
-        if w < o.block_size || h < o.block_size {
-            return 8;
-        }
-        if !(-4096..=4096).contains(&o.min_disparity) {
-            return 9;
-        }
-        let fit = |p: f32| p.is_finite() && (0.0..=1024.0).contains(&p);
-        if !volume && o.semi_global && !(fit(o.sgm_p1) && fit(o.sgm_p2)) {
-            return 10;
-        }
-        let needed = if volume { self.count() * w * h } else { w * h };
-        if self.out_len(volume) != needed {
-            return 11;
-        }
-        if self.whole_len() < self.whole_needed() || (!volume && self.float_len() < self.float_needed()) {
-            return 12;
-        }
-        0
     }
 }
 
@@ -109,14 +84,14 @@ fn gate(rng: &mut Rng) -> f32 {
 
 fn penalty(rng: &mut Rng) -> f32 {
     let usual = rng.below(3000) as f32 / 1000.0;
-    rng.pick(&[usual, usual, 0.1, 1.5, 0.0, -0.0, 1024.0, 1e-45, 700.5])
+    rng.pick(&[usual, usual, 0.1, 1.5, 0.0, -0.0, PENALTY_MOST, 1e-45, 700.5])
 }
 
 pub fn options(rng: &mut Rng, blocks: &[usize], count_most: i64) -> Options {
     let count = if rng.one_in(6) { 1 } else { rng.within(1, count_most) };
-    let near = rng.within(-6, 4);
+    let near = rng.within(-6, 4) as i32;
     Options {
-        min_disparity: rng.pick(&[0, 0, near, near, -4096, 4096, -30]) as i32,
+        min_disparity: rng.pick(&[0, 0, near, near, -FIRST_MOST, FIRST_MOST, -30]),
         num_disparities: count as i32,
         block_size: rng.pick(blocks),
         min_correlation: gate(rng),
@@ -155,18 +130,18 @@ pub fn unfit(rng: &mut Rng) -> Case {
     let (w, h) = case.left_size;
     for _ in 0..1 + rng.below(2) {
         match rng.below(16) {
-            0 => case.left_size.0 = rng.pick(&[0, 2049, usize::MAX, case.left_size.0 + 1]),
-            1 => case.right_size.1 = rng.pick(&[0, 2049, usize::MAX / 2, case.right_size.1 + 1]),
+            0 => case.left_size.0 = rng.pick(&[0, SIDE_MOST + 1, usize::MAX, case.left_size.0 + 1]),
+            1 => case.right_size.1 = rng.pick(&[0, SIDE_MOST + 1, usize::MAX / 2, case.right_size.1 + 1]),
             2 => case.left.push(0),
             3 => drop(case.right.pop()),
-            4 => case.options.block_size = rng.pick(&[0, 2, 32, 64, usize::MAX - 1]),
-            5 => case.options.block_size = rng.pick(&[33, 65, usize::MAX]),
+            4 => case.options.block_size = rng.pick(&[0, 2, BLOCK_MOST + 1, 64, usize::MAX - 1]),
+            5 => case.options.block_size = rng.pick(&[BLOCK_MOST + 2, 65, usize::MAX]),
             6 => case.options.num_disparities = rng.pick(&[0, -1, i32::MIN]),
-            7 => case.options.num_disparities = rng.pick(&[257, 1000, i32::MAX]),
-            8 => case.options.block_size = 31,
-            9 => case.options.min_disparity = rng.pick(&[-4097, 4097, i32::MIN, i32::MAX]),
-            10 => case.options.sgm_p1 = rng.pick(&[-1e-45, 1024.0001, f32::NAN, f32::INFINITY, -1.0]),
-            11 => case.options.sgm_p2 = rng.pick(&[-0.5, 2000.0, f32::NAN, f32::NEG_INFINITY]),
+            7 => case.options.num_disparities = rng.pick(&[COUNT_MOST + 1, 4 * COUNT_MOST, i32::MAX]),
+            8 => case.options.block_size = BLOCK_MOST,
+            9 => case.options.min_disparity = rng.pick(&[-FIRST_MOST - 1, FIRST_MOST + 1, i32::MIN, i32::MAX]),
+            10 => case.options.sgm_p1 = rng.pick(&[-1e-45, PENALTY_MOST.next_up(), f32::NAN, f32::INFINITY, -1.0]),
+            11 => case.options.sgm_p2 = rng.pick(&[-0.5, 2.0 * PENALTY_MOST, f32::NAN, f32::NEG_INFINITY]),
             12 => case.spare.0 = rng.pick(&[-1, 1, 7]),
             13 | 14 => {
                 // another size, with as many bytes
@@ -183,8 +158,8 @@ pub fn unfit(rng: &mut Rng) -> Case {
         }
     }
     // lengths are worked out from the sizes: keep them small enough to be lent
-    if case.left_size.0 > 4000 || case.left_size.1 > 4000 {
-        case.left_size = (2049, 1);
+    if case.left_size.0 > 2 * SIDE_MOST || case.left_size.1 > 2 * SIDE_MOST {
+        case.left_size = (SIDE_MOST + 1, 1);
     }
     case
 }

@@ -12,6 +12,7 @@ mod shrink;
 
 use case::Case;
 use plombrisa::Options;
+use runs::limits::{BLOCK_MOST, COUNT_MOST};
 use runs::rng::Rng;
 use std::fmt::Debug;
 use std::process::exit;
@@ -94,11 +95,11 @@ fn named(run: &mut Run) {
     let flat = vec![7u8; 40 * 40];
     for semi_global in [false, true] {
         for lr_consistency in [false, true] {
-            for block_size in [1, 31, 32, 33] {
+            for block_size in [1, BLOCK_MOST, BLOCK_MOST + 1, BLOCK_MOST + 2] {
                 let options = Options { block_size, num_disparities: 8, semi_global, lr_consistency, ..Options::default() };
                 run.try_case("document 01's examples", &Case::of(40, 40, flat.clone(), flat.clone(), options));
             }
-            for num_disparities in [256, 257] {
+            for num_disparities in [COUNT_MOST, COUNT_MOST + 1] {
                 let options = Options { num_disparities, block_size: 3, semi_global, lr_consistency, ..Options::default() };
                 run.try_case("document 01's examples", &Case::of(40, 40, flat.clone(), flat.clone(), options));
             }

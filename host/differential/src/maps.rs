@@ -1,8 +1,9 @@
 //! A map's figures on both sides: valid cells, cover, least and greatest.
 use crate::numbers::{narrow, size, unfit_side};
-use runs::rng::Rng;
 use oracle::dense::DisparityMap;
 use plombrisa::{Map, cover, cover_in, valid_count, valid_count_in, valid_range, valid_range_in};
+use runs::limits::is_map;
+use runs::rng::Rng;
 
 #[derive(Debug)]
 pub struct Cells {
@@ -51,8 +52,7 @@ impl Cells {
 
     /// Whether the size is in range and the length fits it.
     pub fn good(&self) -> bool {
-        let side = |n: usize| (1..=2048).contains(&n);
-        side(self.width) && side(self.height) && self.cells.len() == self.width * self.height
+        is_map(self.cells.len(), self.width, self.height)
     }
 
     /// The least and the greatest valid number where the earlier of two equal ones stays, which settles the sign of a zero.

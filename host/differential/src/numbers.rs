@@ -1,4 +1,5 @@
 //! Numbers of every kind, for the calls that take any.
+use runs::limits::SIDE_MOST;
 use runs::rng::Rng;
 
 /// Any f64: any bits, one at a boundary, one of any magnitude, or a plain one.
@@ -33,14 +34,14 @@ pub fn beside(rng: &mut Rng, x: f64) -> f64 {
 
 /// A width and a height: mostly small, sometimes the largest.
 pub fn size(rng: &mut Rng) -> (usize, usize) {
-    let mut side = |most: usize| if rng.one_in(40) { 2048 } else { 1 + rng.below(most) };
+    let mut side = |most: usize| if rng.one_in(40) { SIDE_MOST } else { 1 + rng.below(most) };
     let width = side(14);
-    (width, if width == 2048 { 2 } else { side(9) })
+    (width, if width == SIDE_MOST { 2 } else { side(9) })
 }
 
 /// A side outside its range.
 pub fn unfit_side(rng: &mut Rng) -> usize {
-    rng.pick(&[0, 2049, 1 << 32, 1 << 63, usize::MAX])
+    rng.pick(&[0, SIDE_MOST + 1, 1 << 32, 1 << 63, usize::MAX])
 }
 
 /// The same number, any NaN being any other.

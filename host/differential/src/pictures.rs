@@ -1,8 +1,9 @@
 //! One picture read at a pixel and between pixels, on both sides.
 use crate::numbers::{beside, size, unfit_side, wide};
-use runs::rng::Rng;
 use oracle::dense::GrayImage;
 use plombrisa::{Picture, bilinear, bilinear_in, pixel, pixel_in};
+use runs::refusals::LentPicture;
+use runs::rng::Rng;
 
 #[derive(Debug)]
 pub struct Reading {
@@ -60,12 +61,7 @@ impl Reading {
 
     /// Document 01's number for the picture's shape, 0 for none.
     fn shape(&self) -> u32 {
-        let side = |n: usize| (1..=2048).contains(&n);
-        match side(self.width) && side(self.height) {
-            false => 1,
-            true if self.bytes.len() != self.width * self.height => 2,
-            true => 0,
-        }
+        LentPicture { width: self.width, height: self.height, bytes: self.bytes.len() }.refusal()
     }
 }
 

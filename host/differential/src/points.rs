@@ -1,9 +1,10 @@
 //! The point formula and the list of a map's points, on both sides.
 use crate::maps::{Cells, map};
 use crate::numbers::{beside, same, wide};
-use runs::rng::Rng;
 use oracle::rectification::{FxFyCxCy, StereoRectification};
 use plombrisa::{Intrinsics, PointRecord, points, points_in, rectified_point, rectified_point_in};
+use runs::limits::{COUNT_MOST, SIDE_MOST};
+use runs::rng::Rng;
 
 #[derive(Debug)]
 pub struct Formula {
@@ -42,7 +43,8 @@ pub fn formula(rng: &mut Rng) -> Formula {
     if rng.one_in(3) {
         return Formula { k: any_camera(rng), x: wide(rng), y: wide(rng), disparity: wide(rng).abs() };
     }
-    let (x, y, disparity) = (rng.below(2048) as f64, rng.below(2048) as f64, rng.below(4096) as f64 / 16.0);
+    let (x, y) = (rng.below(SIDE_MOST) as f64, rng.below(SIDE_MOST) as f64);
+    let disparity = rng.below(16 * COUNT_MOST as usize) as f64 / 16.0;
     let mut case = Formula { k: camera(rng), x, y, disparity };
     for _ in 0..rng.below(3) {
         let v = wide(rng);

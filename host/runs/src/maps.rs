@@ -1,4 +1,5 @@
 //! Maps to be written: good ones, and ones whose size, length or output is unfit.
+use crate::limits::SIDE_MOST;
 use crate::rng::Rng;
 use crate::sizes;
 use std::fmt;
@@ -116,7 +117,7 @@ impl MadeMap {
             }
             3 => {
                 // a side of no map, and a length that fits it
-                let side = rng.pick(&[0, 2049]);
+                let side = rng.pick(&[0, SIDE_MOST + 1]);
                 (self.width, self.height) = rng.pick(&[(side, 1), (1, side)]);
                 cells(rng, self.number, side, &mut self.cells);
                 self.len = side;

@@ -1,6 +1,7 @@
 //! The check of a vendor's map in plain Rust, written from the request's text alone, so that the library is held to another reading of
 //! it. Nothing here calls the library; the raw costs are those of the Rust that it was carried over from. A refusal is its number.
 use oracle::opened::{BlockMatchOptions, GrayImage, raw_volume};
+use runs::refusals::{LentPicture, Pair, first_of};
 
 /// A picture or a map: its cells by rows, and the size that it is said to have.
 #[derive(Debug, Clone, Copy)]
@@ -37,23 +38,18 @@ pub enum Fault {
     Beaten,
 }
 
-/// The number of the first reason to refuse, 0 for none, with so many cells of the whole-number room.
+/// The number of the first reason to refuse, 0 for none, with so many cells of the whole-number room. What the room needs is worked out
+/// only for pictures that are not refused, for the sides of others may be any.
 fn refusal(asked: &Asked, room: usize) -> u32 {
     let Asked { left, right, search, map } = asked;
-    let side = |n: usize| (1..=2048).contains(&n);
-    match () {
-        () if ![left.width, left.height, right.width, right.height].into_iter().all(side) => 1,
-        () if left.cells.len() != left.width * left.height || right.cells.len() != right.width * right.height => 2,
-        () if left.width != right.width || left.height != right.height => 3,
-        () if search.block_size.is_multiple_of(2) => 4,
-        () if search.block_size > 31 => 5,
-        () if search.num_disparities <= 0 => 6,
-        () if search.num_disparities > 256 => 7,
-        () if left.width < search.block_size || left.height < search.block_size => 8,
-        () if !(-4096..=4096).contains(&search.min_disparity) => 9,
-        () if map.width != left.width || map.height != left.height || map.cells.len() != left.cells.len() => 23,
-        () if room < 5 * (left.width + 1) * (left.height + 1) => 12,
-        () => 0,
+    let of = |picture: &Grid<u8>| LentPicture { width: picture.width, height: picture.height, bytes: picture.cells.len() };
+    let Search { min_disparity: first, num_disparities: count, block_size: block, .. } = *search;
+    match (Pair { left: of(left), right: of(right), block, count, first }).refusal() {
+        0 => first_of(&[
+            (23, map.width != left.width || map.height != left.height || map.cells.len() != left.cells.len()),
+            (12, room < 5 * (left.width + 1) * (left.height + 1)),
+        ]),
+        number => number,
     }
 }
 
@@ -132,6 +128,7 @@ pub fn judge(asked: &Asked, room: usize) -> Result<Judged, u32> {
 #[cfg(test)]
 mod tests {
     use super::*;
+    use runs::limits::{BLOCK_MOST, COUNT_MOST, FIRST_MOST, SIDE_MOST};
 
     const ROW: [u8; 5] = [9, 1, 4, 7, 2];
     const MOVED: [u8; 5] = [1, 4, 7, 2, 5];
@@ -215,23 +212,23 @@ mod tests {
         assert_eq!(refused(&asked, 119), Some(23));
         asked.map = Grid { cells: &cells, width: 3, height: 5 };
         assert_eq!(refused(&asked, 119), Some(23));
-        asked.search.min_disparity = -4097;
+        asked.search.min_disparity = -FIRST_MOST - 1;
         assert_eq!(refused(&asked, 119), Some(9));
         asked.search.block_size = 5;
         assert_eq!(refused(&asked, 119), Some(8));
-        asked.search.num_disparities = 257;
+        asked.search.num_disparities = COUNT_MOST + 1;
         assert_eq!(refused(&asked, 119), Some(7));
         asked.search.num_disparities = 0;
         assert_eq!(refused(&asked, 119), Some(6));
-        asked.search.block_size = 33;
+        asked.search.block_size = BLOCK_MOST + 2;
         assert_eq!(refused(&asked, 119), Some(5));
-        asked.search.block_size = 32;
+        asked.search.block_size = BLOCK_MOST + 1;
         assert_eq!(refused(&asked, 119), Some(4));
         asked.right = Grid { width: 3, height: 5, ..picture };
         assert_eq!(refused(&asked, 119), Some(3));
         asked.right.cells = &bytes[..14];
         assert_eq!(refused(&asked, 119), Some(2));
-        asked.right.width = 2049;
+        asked.right.width = SIDE_MOST + 1;
         assert_eq!(refused(&asked, 119), Some(1));
     }
 }

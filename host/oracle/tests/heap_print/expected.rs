@@ -1,5 +1,6 @@
 //! What document 01's text has the print program answer.
 use oracle::dense::{BlockMatchOptions, DisparityMap, GrayImage, match_block};
+use runs::refusals::{LentPicture, Pair};
 
 /// The line's eight fields.
 struct Line {
@@ -56,17 +57,11 @@ impl Line {
         self.width > 24 || self.height > 16 || self.count > 8
     }
 
-    /// The number of document 01's table, as far as a line that is not too big can reach it; 0 for none.
+    /// The number of document 01's table, 0 for none: each picture has its bytes, and what the program lends fits.
     fn refusal(&self) -> u32 {
-        let tests = [
-            (1, self.width == 0 || self.height == 0),
-            (4, self.block % 2 == 0),
-            (5, self.block > 31),
-            (6, self.count == 0),
-            (8, self.width < self.block || self.height < self.block),
-            (9, !(-4096..=4096).contains(&self.first)),
-        ];
-        tests.iter().find(|(_, applies)| *applies).map_or(0, |(number, _)| *number)
+        let Self { width, height, block, count, first, .. } = *self;
+        let picture = LentPicture { width, height, bytes: width * height };
+        Pair { left: picture, right: picture, block, count, first }.refusal()
     }
 
     fn map(&self, left: &[u8], right: &[u8]) -> DisparityMap {
