@@ -1,11 +1,12 @@
 //! Sheets in plain Rust, written from the request's text alone, so that the library is held to another reading of it. Nothing here
 //! calls the library. A refusal is its number; lengths of outputs (33, 11) are left to the caller, who lends them.
+use runs::limits::is_map;
 
-/// The largest width and height.
-pub const LARGEST_SIDE: u64 = 2048;
+/// The largest width and height that a sheet of version 1 says. It is the version's own, whatever a map may have.
+pub const SHEET_SIDE_MOST: usize = 2048;
 
 /// The largest disparity of kind 0; the least is its negative.
-pub const LARGEST_WHOLE: i64 = 8192;
+pub const WHOLE_MOST: i32 = 8192;
 
 /// What a sheet says before its cells.
 #[derive(Debug, Clone, Copy, PartialEq, Eq)]
@@ -57,7 +58,7 @@ pub fn cell_number(kind: u64, cell: f32) -> Result<u64, u32> {
         return Ok(1 + u64::from(cell.to_bits()));
     }
     let minus_zero = cell == 0.0 && cell.is_sign_negative();
-    if minus_zero || cell.fract() != 0.0 || cell.abs() > LARGEST_WHOLE as f32 {
+    if minus_zero || cell.fract() != 0.0 || cell.abs() > WHOLE_MOST as f32 {
         return Err(32);
     }
     let whole = cell as i64;
@@ -76,13 +77,12 @@ fn cell_of_number(kind: u64, number: u64) -> Option<f32> {
         return cell.is_finite().then_some(cell);
     }
     let whole = if rest % 2 == 1 { -(rest.div_ceil(2) as i64) } else { (rest / 2) as i64 };
-    (whole.abs() <= LARGEST_WHOLE).then_some(whole as f32)
+    (whole.abs() <= i64::from(WHOLE_MOST)).then_some(whole as f32)
 }
 
 /// The sheet of a map, in place of what `sheet` held.
 pub fn write(cells: &[f32], width: usize, height: usize, kind: u64, sheet: &mut Vec<u8>) -> Result<(), u32> {
-    let side = |n: usize| (1..=LARGEST_SIDE as usize).contains(&n);
-    if !side(width) || !side(height) || cells.len() != width * height {
+    if !is_map(cells.len(), width, height) {
         return Err(23);
     }
     if kind > 1 {
@@ -111,7 +111,7 @@ pub fn read(sheet: &[u8], cells: &mut Vec<f32>) -> Result<Head, u32> {
     let mut sides = [0; 2];
     for side in &mut sides {
         let number = take_number(sheet, &mut at).ok_or(34u32)?;
-        if number < 1 || number > LARGEST_SIDE {
+        if number < 1 || number > SHEET_SIDE_MOST as u64 {
             return Err(36);
         }
         *side = number as usize;
@@ -128,6 +128,10 @@ pub fn read(sheet: &[u8], cells: &mut Vec<f32>) -> Result<Head, u32> {
 #[cfg(test)]
 mod tests {
     use super::*;
+    use runs::limits::SIDE_MOST;
+
+    /// The largest disparity of kind 0 as a cell.
+    const WHOLE: f32 = WHOLE_MOST as f32;
 
     fn number(value: u64) -> Vec<u8> {
         let mut bytes = Vec::new();
@@ -199,7 +203,7 @@ mod tests {
 
     #[test]
     fn whole_disparities_to_both_ends() {
-        let cells = [0.0, -1.0, 1.0, -2.0, 63.0, -64.0, 8191.0, -8192.0, 8192.0];
+        let cells = [0.0, -1.0, 1.0, -2.0, 63.0, -64.0, WHOLE - 1.0, -WHOLE, WHOLE];
         let bytes = [
             1, 0, 9, 1, 1, 2, 3, 4, 0x7F, 0x80, 0x01, 0xFF, 0x7F, 0x80, 0x80, 0x01, 0x81, 0x80, 0x01,
         ];
@@ -247,17 +251,18 @@ mod tests {
     #[test]
     fn refusals_of_writing_in_their_order() {
         let (inf, fraction) = (f32::INFINITY, 0.5);
-        for (width, height) in [(0, 1), (1, 0), (2049, 1), (1, 2049), (2, 1), (usize::MAX, usize::MAX), (1 << 32, 1 << 32)] {
+        let long = SIDE_MOST + 1;
+        for (width, height) in [(0, 1), (1, 0), (long, 1), (1, long), (2, 1), (usize::MAX, usize::MAX), (1 << 32, 1 << 32)] {
             assert_eq!(written(&[inf], width, height, 2), Err(23));
         }
         assert_eq!(written(&[], 0, 0, 0), Err(23));
         assert_eq!(written(&[], 1 << 32, 1 << 32, 0), Err(23));
-        assert_eq!(written(&[1.0; 2049], 2049, 1, 0), Err(23));
+        assert_eq!(written(&vec![1.0; long], long, 1, 0), Err(23));
         assert_eq!(written(&[inf], 1, 1, 2), Err(35));
         assert_eq!(written(&[0.0, -inf, fraction], 3, 1, 0), Err(31));
         assert_eq!(written(&[0.0, fraction, -inf], 3, 1, 0), Err(32));
         assert_eq!(written(&[0.0, fraction, -inf], 3, 1, 1), Err(31));
-        for cell in [-0.0, fraction, -fraction, 8193.0, -8193.0, 8192.001, 1e-45, -1e-45, f32::MAX, 4_294_967_296.0] {
+        for cell in [-0.0, fraction, -fraction, WHOLE + 1.0, -WHOLE - 1.0, WHOLE.next_up(), 1e-45, -1e-45, f32::MAX, 4_294_967_296.0] {
             assert_eq!(written(&[cell], 1, 1, 0), Err(32), "{cell}");
             assert!(written(&[cell], 1, 1, 1).is_ok(), "{cell}");
         }
@@ -294,9 +299,9 @@ mod tests {
 
     #[test]
     fn the_largest_side_is_a_side() {
-        let cells = [3.0; 2048];
-        let sheet = [&[1, 0, 0x80, 0x10, 1][..], &[7; 2048]].concat();
-        assert_eq!(written(&cells, 2048, 1, 0), Ok(sheet.clone()));
-        assert_eq!(found(&sheet).map(|(head, _)| head), Ok(Head { kind: 0, width: 2048, height: 1 }));
+        let width = SHEET_SIDE_MOST;
+        let sheet = [&[1, 0, 0x80, 0x10, 1][..], &vec![7; width]].concat();
+        assert_eq!(written(&vec![3.0; width], width, 1, 0), Ok(sheet.clone()));
+        assert_eq!(found(&sheet).map(|(head, _)| head), Ok(Head { kind: 0, width, height: 1 }));
     }
 }

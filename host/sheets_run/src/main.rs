@@ -14,7 +14,8 @@ use runs::program::seed_and_count;
 use runs::recipes::follow_one;
 use runs::rng::Rng;
 use runs::tally::Tally;
-use sheets::Reading;
+use sheets::{NO_WHOLE, Reading};
+use sheets_run::format::WHOLE_MOST;
 
 /// The two kinds of call, with the refusals that each answers.
 const READING: (&str, &[u32]) = ("reading", &[11, 34, 35, 36, 37, 38]);
@@ -36,13 +37,14 @@ impl Run {
 }
 
 /// What needs no seed, or is too large to be drawn often: every number of kind 0 and some past the last, every whole cell and
-/// every half between, the ends of every exponent of kind 1, and a map of the largest size in each kind.
+/// every half between, the ends of every exponent of kind 1, and the largest map that a sheet has in each kind.
 fn fixed(run: &mut Run, seed: u64, reading: &mut Reading, writing: &mut Writing) {
-    for number in 0..17_000 {
+    for number in 0..NO_WHOLE + 600 {
         reading.one_cell(0, number);
         run.read("sheets of one cell, every number of kind 0", reading);
     }
-    for halves in -17_000..=17_000 {
+    let halves_most = 2 * WHOLE_MOST + 600;
+    for halves in -halves_most..=halves_most {
         writing.one_cell(0, halves as f32 / 2.0);
         run.write("maps of one cell, every whole number and half", writing);
     }
@@ -59,7 +61,7 @@ fn fixed(run: &mut Run, seed: u64, reading: &mut Reading, writing: &mut Writing)
     }
     for kind in [0, 1] {
         writing.largest(&mut Rng::new(!seed), kind);
-        run.write("maps of 2,048 by 2,048", writing);
+        run.write("the largest map that a sheet has", writing);
     }
 }
 

@@ -1,8 +1,10 @@
 //! Maps to be written: good ones with cells at every boundary, and unfit ones of every kind.
+use runs::limits::SIDE_MOST;
 use runs::maps::{MadeMap, Number};
 use runs::recipes::{Recipe, take_one};
 use runs::rng::Rng;
 use runs::sizes;
+use sheets_run::format::{SHEET_SIDE_MOST, WHOLE_MOST};
 
 /// A map to be written, and the kind of its sheet.
 #[derive(Debug)]
@@ -13,10 +15,10 @@ pub struct Writing {
 
 /// A whole disparity of kind 0, most of them where the number of groups changes or the range ends.
 fn whole(rng: &mut Rng) -> f32 {
-    let sign = rng.pick(&[1, -1]);
+    let (sign, most) = (rng.pick(&[1, -1]), i64::from(WHOLE_MOST));
     (match rng.below(4) {
-        0 => sign * rng.pick(&[0, 1, 2, 62, 63, 64, 65, 8190, 8191, 8192]),
-        1 => sign * rng.within(0, 8192),
+        0 => sign * rng.pick(&[0, 1, 2, 62, 63, 64, 65, most - 2, most - 1, most]),
+        1 => sign * rng.within(0, most),
         _ => rng.within(-70, 70),
     }) as f32
 }
@@ -36,13 +38,13 @@ fn exact(rng: &mut Rng) -> f32 {
 
 /// A cell that no sheet of the kind holds, unless it is a good one of kind 1.
 fn unfit(rng: &mut Rng) -> f32 {
-    let sign = rng.pick(&[1.0, -1.0]);
+    let (sign, most) = (rng.pick(&[1.0, -1.0]), WHOLE_MOST as f32);
     match rng.below(4) {
         0 => sign * f32::INFINITY,
         1 => -0.0,
-        2 => sign * rng.pick(&[0.5, 1e-45, f32::MIN_POSITIVE, 1.5, 1f32.next_up(), 1f32.next_down(), 8191.5, 8192f32.next_down()]),
+        2 => sign * rng.pick(&[0.5, 1e-45, f32::MIN_POSITIVE, 1.5, 1f32.next_up(), 1f32.next_down(), most - 0.5, most.next_down()]),
         // the powers of two are those at which a conversion to an integer goes round or stops
-        _ => sign * rng.pick(&[8193.0, 8192f32.next_up(), 16384.0, 65536.0, 2f32.powi(31), 2f32.powi(32), 2f32.powi(63), f32::MAX]),
+        _ => sign * rng.pick(&[most + 1.0, most.next_up(), 2.0 * most, 65536.0, 2f32.powi(31), 2f32.powi(32), 2f32.powi(63), f32::MAX]),
     }
 }
 
@@ -82,18 +84,18 @@ impl Writing {
         self.map.one_cell(cell);
     }
 
-    /// A good map of the largest size.
+    /// A good map of the largest size that a sheet has.
     pub fn largest(&mut self, rng: &mut Rng, kind: u64) {
         self.set_kind(kind);
-        self.map.exact_of(rng, 2048, 2048);
+        self.map.exact_of(rng, SHEET_SIDE_MOST, SHEET_SIDE_MOST);
     }
 
-    /// Good maps with sides of 2,048 and near it; few, for they are long.
+    /// Good maps with the longest sides and near them; few, for they are long.
     fn wide(&mut self, rng: &mut Rng) {
         if !rng.one_in(50) {
             return self.good(rng);
         }
-        let long = rng.pick(&[127, 128, 2047, 2048]);
+        let long = rng.pick(&[127, 128, SIDE_MOST - 1, SIDE_MOST]);
         let (width, height) = sizes::narrow(rng, long);
         self.good_of(rng, width, height);
     }
@@ -131,7 +133,7 @@ impl Writing {
     pub const RECIPES: [Recipe<Self>; 8] = [
         ("maps that have a sheet", &[Self::good]),
         ("maps that have a sheet", &[Self::good]),
-        ("maps that have a sheet, some with a side of 2,048", &[Self::wide]),
+        ("maps that have a sheet, some with the longest side", &[Self::wide]),
         ("maps whose size or length is unfit", &[Self::good, Self::spoil_size]),
         ("maps of a kind that is none", &[Self::good, Self::spoil_kind]),
         ("maps with cells that are not the kind's", &[Self::good, Self::spoil_cells]),

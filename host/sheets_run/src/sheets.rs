@@ -5,7 +5,7 @@ use runs::maps::cells;
 use runs::recipes::{Recipe, take_one};
 use runs::rng::Rng;
 use runs::sizes;
-use sheets_run::format;
+use sheets_run::format::{self, SHEET_SIDE_MOST, WHOLE_MOST};
 use std::fmt;
 
 /// Bytes to be read. A sheet is made here as numbers first, for one can then be made wrong before they become bytes.
@@ -29,6 +29,9 @@ impl fmt::Debug for Reading {
     }
 }
 
+/// The first number that no cell of kind 0 has: the last is 1 more than the largest disparity folded.
+pub const NO_WHOLE: u64 = 2 * WHOLE_MOST as u64 + 2;
+
 /// The first number that takes six groups.
 const SIX_GROUPS: u64 = 1 << 35;
 
@@ -44,8 +47,8 @@ fn no_cell(rng: &mut Rng, kind: u64) -> u64 {
     match (rng.below(4), kind) {
         (0, _) => rng.pick(&far),
         (1, _) => over_32_bits(rng, low),
-        (2, 0) => rng.pick(&[16_386, 16_387, 16_400, 32_768, 65_537, (1 << 31) + 1, u64::from(u32::MAX)]),
-        (_, 0) => 16_386 + low % 100_000,
+        (2, 0) => rng.pick(&[NO_WHOLE, NO_WHOLE + 1, NO_WHOLE + 14, 4 * WHOLE_MOST as u64, 65_537, (1 << 31) + 1, u64::from(u32::MAX)]),
+        (_, 0) => NO_WHOLE + low % 100_000,
         (2, _) => {
             let sign = rng.pick(&[0, 0x8000_0000]);
             1 + (sign | rng.pick(&[0x7F80_0000, 0x7F80_0001, 0x7FC0_0000, 0x7FFF_FFFF]))
@@ -133,7 +136,8 @@ impl Reading {
         let side = self.numbers[at].value;
         let far = over_32_bits(rng, side);
         let beside = [side + 1, side.saturating_sub(1)];
-        let sides = [0, 0, 2049, 2049, 2048, 2050, 16_384, 65_537, far, SIX_GROUPS - 1, beside[0], beside[1]];
+        let most = SHEET_SIDE_MOST as u64;
+        let sides = [0, 0, most + 1, most + 1, most, most + 2, 8 * most, 65_537, far, SIX_GROUPS - 1, beside[0], beside[1]];
         self.numbers[at].value = rng.pick(&sides);
     }
 
@@ -162,7 +166,7 @@ impl Reading {
 
     /// Sheets that say a large size: most with few cells behind it, a few with as many as they say.
     fn large(&mut self, rng: &mut Rng) {
-        let long = rng.pick(&[127, 128, 1000, 2047, 2048]);
+        let long = rng.pick(&[127, 128, 1000, SHEET_SIDE_MOST - 1, SHEET_SIDE_MOST]);
         if rng.one_in(50) {
             let (width, height) = sizes::narrow(rng, long);
             self.good_of(rng, width, height);
@@ -173,14 +177,14 @@ impl Reading {
             return self.spoil_length(rng);
         }
         self.good(rng);
-        let other = rng.pick(&[1, 2, 3, 128, 2047, 2048]);
+        let other = rng.pick(&[1, 2, 3, 128, SHEET_SIDE_MOST - 1, SHEET_SIDE_MOST]);
         let (width, height) = rng.pick(&[(long, other), (other, long)]);
         (self.numbers[2].value, self.numbers[3].value) = (width as u64, height as u64);
         if rng.one_in(4) {
             self.spoil_cell(rng);
         }
         // as many cells as the sheet says where they are few enough for a run, else some: none of them may change
-        self.out_len = if width * height <= 4096 && rng.one_in(8) { width * height } else { rng.below(40) };
+        self.out_len = if width * height <= 2 * SHEET_SIDE_MOST && rng.one_in(8) { width * height } else { rng.below(40) };
         self.encode(rng);
     }
 

@@ -5,10 +5,16 @@ use runs::recipes::{Recipe, Step, take_one};
 use runs::rng::Rng;
 use runs::sizes;
 use std::fmt;
-use volume_run::measure::Ground;
+use volume_run::measure::{CELL_LEAST, CELL_MOST, CELLS_MOST, FARTHEST, Ground};
 
-/// The farthest that anything may be, in millimetres.
-pub const FARTHEST: i64 = 100_000;
+/// The farthest that anything may be, in metres.
+pub const FAR: f64 = FARTHEST as f64 / 1000.0;
+
+/// How many of the smallest cells lie from end to end.
+pub const LONGEST: usize = 2 * FARTHEST as usize / CELL_LEAST;
+
+/// How many columns and rows a square of as many cells as there may be has.
+pub const SQUARE: usize = CELLS_MOST.isqrt();
 
 /// A list of coordinates: the first `len` are lent; a reader that runs on finds more behind them.
 #[derive(Default)]
@@ -152,8 +158,8 @@ impl Made {
 
     /// A good heap of a few cells and points.
     pub fn good(&mut self, rng: &mut Rng) {
-        let any = rng.within(10, 10_000) as usize;
-        let cell = rng.pick(&[10, 10, 11, 25, 100, 137, 1000, 9_999, 10_000, any]);
+        let any = rng.within(CELL_LEAST as i64, CELL_MOST as i64) as usize;
+        let cell = rng.pick(&[CELL_LEAST, CELL_LEAST, CELL_LEAST + 1, 25, 100, 137, 1000, CELL_MOST - 1, CELL_MOST, any]);
         let (columns, rows) = sizes::small(rng);
         self.ground_of(rng, cell, columns, rows);
         let count = rng.pick(&[0, 1, 1, 2, 3, 5, 8, 13]);
@@ -165,8 +171,12 @@ impl Made {
         if !rng.one_in(1000) {
             return self.good(rng);
         }
-        let (columns, rows) = rng.pick(&[(256, 256), (255, 257), (20_000, 3), (13_107, 5), (4, 16_384), (8, 8192), (400, 20), (1, 1000)]);
-        let cell = 10 + rng.below((2 * FARTHEST as usize / columns.max(rows)).min(10_000) - 9);
+        let (columns, rows) = rng.pick(&[
+            (SQUARE, SQUARE), (SQUARE - 1, SQUARE + 1), (LONGEST, CELLS_MOST / LONGEST), (CELLS_MOST / 5, 5), (4, CELLS_MOST / 4),
+            (8, CELLS_MOST / 8), (400, 20), (1, 1000),
+        ]);
+        let widest = (2 * FARTHEST as usize / columns.max(rows)).min(CELL_MOST);
+        let cell = CELL_LEAST + rng.below(widest - CELL_LEAST + 1);
         self.ground_of(rng, cell, columns, rows);
         let count = rng.pick(&[0, 1, 10, 100, 1000]);
         self.points(rng, count);
@@ -176,7 +186,8 @@ impl Made {
     fn spoil_cell(&mut self, rng: &mut Rng) {
         let cell = self.ground.cell;
         self.ground.cell = rng.pick(&[
-            0, 1, 9, 10_001, 10_010, 20_000, 1 << 31, 1 << 32, cell.wrapping_add(1 << 32), cell.wrapping_add(1 << 63), usize::MAX,
+            0, 1, CELL_LEAST - 1, CELL_MOST + 1, CELL_MOST + 10, 2 * CELL_MOST, 1 << 31, 1 << 32, cell.wrapping_add(1 << 32),
+            cell.wrapping_add(1 << 63), usize::MAX,
         ]);
     }
 
@@ -193,7 +204,7 @@ impl Made {
         list.all[at] = sign
             * rng.pick(&[
                 nan, f64::NAN, f64::INFINITY, f64::MAX, 1e306, 1.8e305, 1e300, 1e100, 1e18, 9223372036854775.8, 9223372036854776.0, 1e6,
-                101.0, 100.001, round,
+                FAR + 1.0, FAR + 0.001, round,
             ]);
     }
 
@@ -204,7 +215,7 @@ impl Made {
             return;
         }
         let at = rng.below(list.len);
-        let far = rng.pick(&[100.0, 100.0004, 100.0005, 100.0005, 100.0006, 100.001]);
+        let far = rng.pick(&[FAR, FAR + 0.0004, FAR + 0.0005, FAR + 0.0005, FAR + 0.0006, FAR + 0.001]);
         list.all[at] = rng.pick(&[1.0, -1.0]) * stepped(far, rng.within(-3, 3));
     }
 
@@ -229,7 +240,7 @@ impl Made {
         match rng.below(5) {
             0 => *high = *low,
             1 => std::mem::swap(low, high),
-            2 => *high = high.saturating_sub(rng.within(1, 9)),
+            2 => *high = high.saturating_sub(rng.within(1, CELL_LEAST as i64 - 1)),
             3 => *low = low.saturating_add(1),
             _ => *high = high.saturating_add(1),
         }
@@ -237,8 +248,12 @@ impl Made {
 
     /// More cells than there may be, by a few or by many; the points are in some of them: 54.
     fn too_many_cells(&mut self, rng: &mut Rng) {
-        let (columns, rows) = rng.pick(&[(257, 256), (256, 257), (10_923, 6), (6, 10_923), (20_000, 4), (20_000, 20_000), (1000, 66)]);
-        self.ground_of(rng, 10, columns, rows);
+        let sixth = CELLS_MOST / 6 + 1;
+        let (columns, rows) = rng.pick(&[
+            (SQUARE + 1, SQUARE), (SQUARE, SQUARE + 1), (sixth, 6), (6, sixth), (LONGEST, CELLS_MOST / LONGEST + 1), (LONGEST, LONGEST),
+            (1000, CELLS_MOST / 1000 + 1),
+        ]);
+        self.ground_of(rng, CELL_LEAST, columns, rows);
         let count = rng.pick(&[0, 1, 3]);
         self.points(rng, count);
     }
@@ -267,15 +282,15 @@ impl Made {
 
     pub const RECIPES: [Recipe<Made>; 12] = [
         ("good heaps", &[Made::good]),
-        ("good heaps, some of them of up to 65,536 cells", &[Made::wide]),
+        ("good heaps, some of them of as many cells as there may be", &[Made::wide]),
         ("a cell side that is none", &[Made::good, Made::spoil_cell]),
         ("a coordinate that is not finite or too far", &[Made::good, Made::spoil_coordinate]),
-        ("coordinates about 100 m", &[Made::good, Made::far_coordinate]),
+        ("coordinates about as far as they may be", &[Made::good, Made::far_coordinate]),
         ("an edge or a floor depth too far", &[Made::good, Made::spoil_distance]),
         ("lists that are not of one length", &[Made::good, Made::spoil_lengths]),
         ("a rectangle whose sides are unfit", &[Made::good, Made::spoil_sides]),
-        ("more than 65,536 cells", &[Made::too_many_cells]),
-        ("more than 65,536 cells, and another fault", &[Made::too_many_cells, Made::fault]),
+        ("too many cells", &[Made::too_many_cells]),
+        ("too many cells, and another fault", &[Made::too_many_cells, Made::fault]),
         ("a grid of another length", &[Made::good, Made::spoil_grid]),
         ("several faults", &[Made::good, Made::fault, Made::fault, Made::fault]),
     ];

@@ -1,10 +1,15 @@
 //! The volume of a heap in plain Rust, written from the request's text alone, so that the library is held to another reading of it.
 //! Nothing here calls the library. A refusal is its number; the length of the grid (55) is left to the caller, who lends it.
 
-/// The most that a coordinate, an edge or the floor's depth may be in size, in millimetres.
-const FARTHEST: i64 = 100_000;
+/// The least and the most that a cell's side may be, in millimetres.
+pub const CELL_LEAST: usize = 10;
+pub const CELL_MOST: usize = 10_000;
 
-const MOST_CELLS: usize = 65_536;
+/// The most that a coordinate, an edge or the floor's depth may be in size, in millimetres.
+pub const FARTHEST: i64 = 100_000;
+
+/// The most cells that a rectangle may have.
+pub const CELLS_MOST: usize = 65_536;
 
 /// A rectangle of ground, the side of its cells and the depth of its floor, in millimetres; left and top are the low edges.
 #[derive(Debug, Clone, Copy, PartialEq, Eq)]
@@ -89,7 +94,7 @@ fn cells_between(low: i64, high: i64, cell: usize) -> Option<usize> {
 /// The grid over a rectangle.
 pub fn shape(ground: &Ground) -> Result<Shape, u32> {
     let Ground { left, right, top, bottom, cell, floor } = *ground;
-    if !(10..=10_000).contains(&cell) {
+    if !(CELL_LEAST..=CELL_MOST).contains(&cell) {
         return Err(51);
     }
     if [left, right, top, bottom, floor].iter().any(|number| !(-FARTHEST..=FARTHEST).contains(number)) {
@@ -97,7 +102,7 @@ pub fn shape(ground: &Ground) -> Result<Shape, u32> {
     }
     let (columns, rows) = cells_between(left, right, cell).zip(cells_between(top, bottom, cell)).ok_or(53u32)?;
     let shape = Shape { columns, rows };
-    if shape.cells() > MOST_CELLS { Err(54) } else { Ok(shape) }
+    if shape.cells() > CELLS_MOST { Err(54) } else { Ok(shape) }
 }
 
 /// The greatest height of the points in each cell, and none where there is no point; and how many points are in no cell.
@@ -137,6 +142,9 @@ pub fn measure(xs: &[f64], ys: &[f64], zs: &[f64], ground: &Ground) -> Result<Me
 mod tests {
     use super::*;
 
+    /// The farthest in metres.
+    const FAR: f64 = FARTHEST as f64 / 1000.0;
+
     /// Three columns and two rows of 10 mm, the floor at 1 m.
     const SMALL: Ground = Ground { left: -10, right: 20, top: 0, bottom: 20, cell: 10, floor: 1000 };
 
@@ -172,9 +180,9 @@ mod tests {
     fn metres_become_millimetres() {
         let by_hand = [
             (1.0, Some(1000)), (0.0005, Some(1)), (-0.0005, Some(-1)), (0.00049999, Some(0)), (-0.0, Some(0)), (5e-324, Some(0)),
-            (100.0, Some(100_000)), (-100.0, Some(-100_000)), (100.0004, Some(100_000)), (-100.0004, Some(-100_000)), (100.0005, None),
-            (-100.0005, None), (100.001, None), (1e306, None), (f64::MAX, None), (f64::INFINITY, None), (f64::NEG_INFINITY, None),
-            (f64::NAN, None),
+            (FAR, Some(FARTHEST)), (-FAR, Some(-FARTHEST)), (FAR + 0.0004, Some(FARTHEST)), (-FAR - 0.0004, Some(-FARTHEST)),
+            (FAR + 0.0005, None), (-FAR - 0.0005, None), (FAR + 0.001, None), (1e306, None), (f64::MAX, None), (f64::INFINITY, None),
+            (f64::NEG_INFINITY, None), (f64::NAN, None),
             // the f64 product is what is rounded: 5.5 of a number just below 0.0055, but less than 500.5 of one just below 0.5005
             (0.0055, Some(6)), (0.5005, Some(500)), (0.0025, Some(3)), (1.0005, Some(1001)),
         ];
@@ -217,9 +225,10 @@ mod tests {
 
     #[test]
     fn the_largest_heap() {
-        let ground = Ground { left: -100_000, right: 100_000, top: -100_000, bottom: 100_000, cell: 10_000, floor: 100_000 };
-        let place = |i: usize| i as f64 * 10.0 - 100.0;
-        let points: Vec<[f64; 3]> = (0..400).map(|i| [place(i % 20), place(i / 20), -100.0]).collect();
+        let far = FARTHEST;
+        let ground = Ground { left: -far, right: far, top: -far, bottom: far, cell: CELL_MOST, floor: far };
+        let place = |i: usize| i as f64 * 10.0 - FAR;
+        let points: Vec<[f64; 3]> = (0..400).map(|i| [place(i % 20), place(i / 20), -FAR]).collect();
         assert_eq!(figures(&points, &ground), (vec![200_000; 400], 8_000_000_000_000_000, [400, 0, 0]));
     }
 
@@ -227,24 +236,27 @@ mod tests {
     fn shapes() {
         assert_eq!(shape(&SMALL), Ok(Shape { columns: 3, rows: 2 }));
         let square = |side, cell| Ground { left: 0, right: side, top: 0, bottom: side, cell, floor: 0 };
-        assert_eq!(shape(&square(2560, 10)), Ok(Shape { columns: 256, rows: 256 }));
-        assert_eq!(shape(&Ground { right: 2570, ..square(2560, 10) }), Err(54));
-        assert_eq!(shape(&square(100_000, 10_000)), Ok(Shape { columns: 10, rows: 10 }));
+        let (columns, rows) = (CELLS_MOST.isqrt(), CELLS_MOST.isqrt());
+        assert_eq!(columns * rows, CELLS_MOST);
+        let most = square((columns * CELL_LEAST) as i64, CELL_LEAST);
+        assert_eq!(shape(&most), Ok(Shape { columns, rows }));
+        assert_eq!(shape(&Ground { right: most.right + CELL_LEAST as i64, ..most }), Err(54));
+        assert_eq!(shape(&square(FARTHEST, CELL_MOST)), Ok(Shape { columns: 10, rows: 10 }));
     }
 
     #[test]
     fn refusals_in_their_order() {
         let far = i64::MAX;
         let by_hand = [
-            (Ground { cell: 9, ..SMALL }, 51),
-            (Ground { cell: 10_001, ..SMALL }, 51),
+            (Ground { cell: CELL_LEAST - 1, ..SMALL }, 51),
+            (Ground { cell: CELL_MOST + 1, ..SMALL }, 51),
             (Ground { cell: 0, left: far, right: 0, ..SMALL }, 51),
             (Ground { cell: usize::MAX, ..SMALL }, 51),
-            (Ground { left: -100_001, ..SMALL }, 52),
-            (Ground { right: 100_001, ..SMALL }, 52),
+            (Ground { left: -FARTHEST - 1, ..SMALL }, 52),
+            (Ground { right: FARTHEST + 1, ..SMALL }, 52),
             (Ground { top: i64::MIN, ..SMALL }, 52),
             (Ground { bottom: far, ..SMALL }, 52),
-            (Ground { floor: -100_001, right: -10, ..SMALL }, 52),
+            (Ground { floor: -FARTHEST - 1, right: -10, ..SMALL }, 52),
             (Ground { right: -10, ..SMALL }, 53),
             (Ground { right: -20, ..SMALL }, 53),
             (Ground { right: 21, ..SMALL }, 53),
@@ -257,7 +269,7 @@ mod tests {
             assert_eq!(measured(&[[0.0, 0.0, 0.9]], &ground), Err(refusal), "{ground:?}");
             assert_eq!(measured(&[[0.0, f64::NAN, 0.9]], &ground), Err(refusal.min(52)), "{ground:?}");
         }
-        assert_eq!(measured(&[[0.0, 0.0, 0.9], [0.0, 0.0, 100.001]], &SMALL), Err(52));
+        assert_eq!(measured(&[[0.0, 0.0, 0.9], [0.0, 0.0, FAR + 0.001]], &SMALL), Err(52));
         assert_eq!(measure(&[0.0], &[0.0], &[], &SMALL), Err(52));
         assert_eq!(measure(&[0.0], &[], &[0.0], &SMALL), Err(52));
         assert_eq!(measure(&[], &[0.0], &[0.0], &SMALL), Err(52));
