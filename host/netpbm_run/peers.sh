@@ -25,6 +25,7 @@ peers() { ${CARGO_TARGET_X86_64_UNKNOWN_LINUX_GNU_RUNNER:-} "$built" "$@"; }
 work=$(mktemp -d)
 trap 'rm -rf "$work"' EXIT
 cd "$work" || exit 1
+longest=$(peers longest-side) || exit 1
 different=0
 
 # same WHAT COUNT FILE FILE: two texts that must be one.
@@ -42,7 +43,7 @@ same() {
 words() { for file in "$@"; do pnmtoplainpnm -quiet "$file" | tr -s ' \n' '\n\n' | sed '/^$/d'; done; }
 
 mkdir made
-for size in '1 1' '1 7' '7 1' '3 2' '64 48' '641 479' '2048 1' '1 2048' '2048 2048'; do
+for size in '1 1' '1 7' '7 1' '3 2' '64 48' '641 479' "$longest 1" "1 $longest" '2048 2048'; do
     set -- $size
     name=made/$1x$2
     pgmmake 0.3 "$1" "$2" > "$name-make.pgm"
@@ -115,7 +116,7 @@ done
 
 if have_opencv; then
     /usr/bin/python3 -c 'import cv2; print("OpenCV", cv2.__version__)'
-    for size in '1 1' '1 9' '9 1' '37 23' '640 480' '2048 1' '1 2048' '1024 1024'; do
+    for size in '1 1' '1 9' '9 1' '37 23' '640 480' "$longest 1" "1 $longest" '1024 1024'; do
         set -- $size
         /usr/bin/python3 "$opencv" finite 3 "$1" "$2" > map.txt
         peers write map.txt map.pfm

@@ -2,6 +2,7 @@
 //! disk, another program or an ill-wisher makes.
 use crate::maps::number;
 use runs::bytes::{Bytes, Spoilt};
+use runs::limits::SIDE_MOST;
 use runs::maps::cells;
 use runs::recipes::{Recipe, follow_one, take_one};
 use runs::rng::Rng;
@@ -232,7 +233,7 @@ impl Reading {
 
     /// A size of no file, or one that is good and of another file.
     fn spoil_size(&mut self, rng: &mut Rng) {
-        let sides = [0, 0, 2049, 2049, 2048, 2050, 4096, 65_536];
+        let sides = [0, 0, SIDE_MOST + 1, SIDE_MOST + 1, SIDE_MOST, SIDE_MOST + 2, 2 * SIDE_MOST, 65_536];
         self.spoil_side(rng, |rng, side| {
             let number = str::from_utf8(side).ok().and_then(|text| text.parse().ok()).unwrap_or(1);
             let side = rng.pick(&sides);
@@ -262,7 +263,7 @@ impl Reading {
 
     /// Files that say a large size: most with few cells behind it, a few with as many as they say.
     fn large(&mut self, rng: &mut Rng) {
-        let long = rng.pick(&[9, 10, 99, 100, 1000, 2047, 2048]);
+        let long = rng.pick(&[9, 10, 99, 100, 1000, SIDE_MOST - 1, SIDE_MOST]);
         let (width, height) = sizes::narrow(rng, long);
         if rng.one_in(20) {
             self.good_of(rng, width, height);

@@ -1,9 +1,7 @@
 //! PGM and PFM in plain Rust, written from the request's text and Netpbm's pages alone, so that the library is held to another
 //! reading of them. Nothing here calls the library. A refusal is its number; the lengths of outputs (45) are left to the caller,
 //! who lends them.
-
-/// The largest width and height.
-pub const LARGEST_SIDE: u64 = 2048;
+use runs::limits::is_side;
 
 /// The only maximum that a PGM file may have.
 const MAXIMUM: u64 = 255;
@@ -18,7 +16,7 @@ pub struct Size {
 impl Size {
     /// The size with these sides, where both are in their range.
     fn of(width: u64, height: u64) -> Option<Self> {
-        let side = |n: u64| (1..=LARGEST_SIDE).contains(&n).then_some(n as usize);
+        let side = |n: u64| usize::try_from(n).ok().filter(|&n| is_side(n));
         Some(Self { width: side(width)?, height: side(height)? })
     }
 
@@ -180,6 +178,7 @@ pub fn write_pfm(cells: &[f32], width: usize, height: usize, file: &mut Vec<u8>)
 #[cfg(test)]
 mod tests {
     use super::*;
+    use runs::limits::SIDE_MOST;
 
     const MARK: u32 = 0x7FC0_0000;
 
@@ -230,7 +229,7 @@ mod tests {
 
     #[test]
     fn refusals_of_pgm_in_their_order() {
-        let hand_made: [(&[u8], u32); 40] = [
+        let hand_made: [(&[u8], u32); 39] = [
             (b"", 41),
             (b"P", 41),
             (b"P5", 41),
@@ -267,7 +266,6 @@ mod tests {
             (b"P5\n2 1 65535\na", 42),
             (b"P5\n0 1 255\n", 43),
             (b"P5\n1 0 255\n", 43),
-            (b"P5\n2049 1 255\n", 43),
             (b"P5\n18446744073709551618 1 255\nab", 43),
             (b"P5\n2 1 255\na", 44),
             (b"P5\n2 1 255\nabc", 44),
@@ -275,6 +273,7 @@ mod tests {
         for (file, refusal) in hand_made {
             assert_eq!(picture(file), Err(refusal), "{:?}", file.escape_ascii().to_string());
         }
+        assert_eq!(picture(format!("P5\n{} 1 255\n", SIDE_MOST + 1).as_bytes()), Err(43));
         assert_eq!(picture(b"P5\n123456789012345678901234567890 1 255\n"), Err(43));
     }
 
@@ -319,7 +318,7 @@ mod tests {
 
     #[test]
     fn refusals_of_pfm_in_their_order() {
-        let hand_made: [(&[u8], u32); 22] = [
+        let hand_made: [(&[u8], u32); 21] = [
             (b"", 41),
             (b"Pf", 41),
             (b"PF\n1 1\n1\nabcd", 41),
@@ -337,7 +336,6 @@ mod tests {
             (b"Pf\n1 1\n1", 41),
             (b"Pf\n0 1\n0\n", 41),
             (b"Pf\n0 1\n1\n", 43),
-            (b"Pf\n1 2049\n1\n", 43),
             (b"Pf\n1 18446744073709551617\n1\nabcd", 43),
             (b"Pf\n1 1\n1\n", 44),
             (b"Pf\n1 1\n1\nabc", 44),
@@ -346,25 +344,29 @@ mod tests {
         for (file, refusal) in hand_made {
             assert_eq!(map(file), Err(refusal), "{:?}", file.escape_ascii().to_string());
         }
+        assert_eq!(map(format!("Pf\n1 {}\n1\n", SIDE_MOST + 1).as_bytes()), Err(43));
         assert_eq!(map(b"Pf\n0001 01\n1\n\0\0\0\0"), Ok((1, 1, vec![0])));
     }
 
     #[test]
     fn refusals_of_writing() {
-        for (width, height) in [(0, 1), (1, 0), (2049, 1), (1, 2049), (2, 1), (usize::MAX, usize::MAX), (1 << 32, 1 << 32)] {
+        let long = SIDE_MOST + 1;
+        for (width, height) in [(0, 1), (1, 0), (long, 1), (1, long), (2, 1), (usize::MAX, usize::MAX), (1 << 32, 1 << 32)] {
             assert_eq!(written(&[1.0], width, height), Err(23));
         }
         assert_eq!(written(&[], 0, 0), Err(23));
         assert_eq!(written(&[], 1 << 32, 1 << 32), Err(23));
-        assert_eq!(written(&[1.0; 2049], 2049, 1), Err(23));
+        assert_eq!(written(&vec![1.0; long], long, 1), Err(23));
     }
 
     #[test]
     fn the_largest_side_is_a_side() {
-        let levels = vec![3; 2048];
-        assert_eq!(picture(&[&b"P5 2048 1 255\n"[..], &levels].concat()), Ok((2048, 1, levels)));
-        let file = written(&[0.0; 2048], 1, 2048).expect("a map");
-        assert_eq!(file, [&b"Pf\n1 2048\n-1.0\n"[..], &[0; 4 * 2048]].concat());
-        assert_eq!(map(&file), Ok((1, 2048, vec![0; 2048])));
+        let levels = vec![3; SIDE_MOST];
+        let header = format!("P5 {SIDE_MOST} 1 255\n");
+        assert_eq!(picture(&[header.as_bytes(), &levels].concat()), Ok((SIDE_MOST, 1, levels)));
+        let file = written(&vec![0.0; SIDE_MOST], 1, SIDE_MOST).expect("a map");
+        let header = format!("Pf\n1 {SIDE_MOST}\n-1.0\n");
+        assert_eq!(file, [header.as_bytes(), &vec![0; 4 * SIDE_MOST]].concat());
+        assert_eq!(map(&file), Ok((1, SIDE_MOST, vec![0; SIDE_MOST])));
     }
 }

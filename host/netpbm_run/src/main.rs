@@ -14,6 +14,7 @@ use runs::maps::MadeMap;
 use runs::program::seed_and_count;
 use runs::recipes::follow_one;
 use runs::rng::Rng;
+use runs::sizes::SQUARE_MOST;
 use runs::tally::Tally;
 
 /// The kinds of call, with the refusals that each answers.
@@ -49,9 +50,8 @@ const SMALL: [(Format, &[u8], usize); 6] = [
     (Format::Pfm, b"Pf\n1 1\n0.01\n\x01\x02\x03\x04", 1),
 ];
 
-/// What needs no seed, or is too large to be drawn often: every byte at every place of some small files and every cut of them,
-/// every exponent, and files and maps of the largest size.
-fn fixed(run: &mut Run, seed: u64, reading: &mut Reading, writing: &mut MadeMap) {
+/// Every byte at every place of some small files, and every cut of them.
+fn every_byte(run: &mut Run, reading: &mut Reading) {
     for (format, file, cells) in SMALL {
         for at in 0..file.len() {
             reading.set(format, &file[..at], cells);
@@ -68,6 +68,10 @@ fn fixed(run: &mut Run, seed: u64, reading: &mut Reading, writing: &mut MadeMap)
             }
         }
     }
+}
+
+/// The ends of every exponent.
+fn every_exponent(run: &mut Run, reading: &mut Reading, writing: &mut MadeMap) {
     for exponent in 0..1u32 << 9 {
         for rest in [0, 1, 0x3F_FFFF, 0x40_0000, 0x7F_FFFF] {
             let cell = f32::from_bits(exponent << 23 | rest);
@@ -79,20 +83,31 @@ fn fixed(run: &mut Run, seed: u64, reading: &mut Reading, writing: &mut MadeMap)
             run.write("maps of one cell, every exponent", writing);
         }
     }
-    let mut rng = Rng::new(!seed);
-    for (width, height) in [(2048, 2048), (640, 480)] {
+}
+
+/// Large files and maps.
+fn large(run: &mut Run, rng: &mut Rng, reading: &mut Reading, writing: &mut MadeMap) {
+    for (width, height) in [(SQUARE_MOST, SQUARE_MOST), (640, 480)] {
         for format in [Format::Pgm, Format::Pfm, Format::Pfm] {
-            reading.good_file(&mut rng, format, width, height);
-            run.read("files to 2,048 by 2,048", reading);
+            reading.good_file(rng, format, width, height);
+            run.read("large files", reading);
         }
-        writing.good_of(&mut rng, width, height);
-        run.write("maps to 2,048 by 2,048", writing);
+        writing.good_of(rng, width, height);
+        run.write("large maps", writing);
     }
+    let (size, cells) = (format!("Pf\n{SQUARE_MOST} {SQUARE_MOST}\n"), SQUARE_MOST * SQUARE_MOST);
     for scale in [&b"-1.0"[..], b"1.0"] {
-        let cells: Vec<u8> = (0..4 * 2048 * 2048).map(|_| rng.next() as u8).collect();
-        reading.set(Format::Pfm, &[b"Pf\n2048 2048\n", scale, b"\n", &cells].concat(), 2048 * 2048);
-        run.read("files to 2,048 by 2,048", reading);
+        let data: Vec<u8> = (0..4 * cells).map(|_| rng.next() as u8).collect();
+        reading.set(Format::Pfm, &[size.as_bytes(), scale, b"\n", &data].concat(), cells);
+        run.read("large files", reading);
     }
+}
+
+/// What needs no seed, or is too large to be drawn often.
+fn fixed(run: &mut Run, seed: u64, reading: &mut Reading, writing: &mut MadeMap) {
+    every_byte(run, reading);
+    every_exponent(run, reading, writing);
+    large(run, &mut Rng::new(!seed), reading, writing);
 }
 
 fn main() {

@@ -1,4 +1,5 @@
 //! Maps to be written: good ones with cells of every kind, and unfit ones.
+use runs::limits::SIDE_MOST;
 use runs::maps::MadeMap;
 use runs::recipes::Recipe;
 use runs::rng::Rng;
@@ -18,12 +19,12 @@ pub fn number(rng: &mut Rng) -> f32 {
     })
 }
 
-/// Good maps with sides where the number of digits changes, to 2,048; few, for they are long.
+/// Good maps with sides where the number of digits changes, to the longest; few, for they are long.
 fn wide(map: &mut MadeMap, rng: &mut Rng) {
     if !rng.one_in(20) {
         return map.good(rng);
     }
-    let long = rng.pick(&[9, 10, 99, 100, 999, 1000, 2047, 2048]);
+    let long = rng.pick(&[9, 10, 99, 100, 999, 1000, SIDE_MOST - 1, SIDE_MOST]);
     let (width, height) = sizes::narrow(rng, long);
     map.good_of(rng, width, height);
 }
@@ -34,7 +35,7 @@ fn spoil_output(map: &mut MadeMap, rng: &mut Rng) {
 
 pub const RECIPES: [Recipe<MadeMap>; 5] = [
     ("maps", &[MadeMap::good]),
-    ("maps, some with a side to 2,048", &[wide]),
+    ("maps, some with a side to the longest", &[wide]),
     ("maps whose size or length is unfit", &[MadeMap::good, MadeMap::spoil_size]),
     ("maps with too little room for the file", &[MadeMap::good, spoil_output]),
     ("maps with both faults", &[MadeMap::good, MadeMap::spoil_size, spoil_output]),

@@ -1,4 +1,5 @@
 //! The examples of the README: the text there is the text compiled here. The two matches answer the worked example of document 01.
+use runs::limits::FIRST_MOST;
 use runs::program::{program_at, shell_line};
 use std::fs::read_to_string;
 use std::path::{Path, PathBuf};
@@ -45,6 +46,7 @@ fn printed_by(source: &str, language: &Language) -> String {
     printed(
         Command::new(compiler)
             .args(language.words)
+            .arg(format!("-DFIRST_MOST={FIRST_MOST}"))
             .args(["-Wall", "-Wextra", "-Wpedantic", "-Werror", "-I"])
             .arg(home.join("include"))
             .arg(home.join(source))

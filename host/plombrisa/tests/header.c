@@ -1,5 +1,5 @@
 /* Calls each export as the header declares it, and exits with the number of the first that answers otherwise than it should. The text is
- * C11 and C++17. */
+ * C11 and C++17. FIRST_MOST, the greatest first disparity, is given by whoever compiles it. */
 #include <math.h>
 #include <string.h>
 #include "plombrisa.h"
@@ -136,7 +136,7 @@ int main(void) {
     for (int i = 0; i < 121; i++) whole[i] = 7;
     verdict at = {777, 7, 77};
     if (checked(0, 0.5f, seen, 15, 3, 5, whole, 121, &at) != 23 || checked(0, 0.5f, seen, 15, 5, 3, whole, 119, &at) != 12) return 59;
-    if (checked(0, 0.5f, seen, 14, 5, 3, whole, 119, &at) != 23 || checked(4097, 0.5f, seen, 14, 5, 3, whole, 119, &at) != 9) return 60;
+    if (checked(0, 0.5f, seen, 14, 5, 3, whole, 119, &at) != 23 || checked(FIRST_MOST + 1, 0.5f, seen, 14, 5, 3, whole, 119, &at) != 9) return 60;
     if (at.passed != 777 || at.x != 7 || at.y != 77 || whole[0] != 7 || whole[118] != 7 || whole[119] != 7) return 61;
     if (checked(0, 0.5f, seen, 15, 5, 3, whole, 121, &at) != 0 || at.passed != 1 || at.x != 7 || at.y != 77) return 62;
     if (whole[0] != 0 || whole[119] != 0 || whole[120] != 7) return 63;

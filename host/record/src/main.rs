@@ -6,6 +6,7 @@
 //! uniqueness_ratio, lr_max_diff, sgm_p1 and sgm_p2 (f32), the left and the right picture row by row, and the patterns of the
 //! map's cells row by row, 7FC00000 for the mark.
 use oracle::dense::{BlockMatchOptions, GrayImage, match_block};
+use runs::limits::{FIRST_MOST, PENALTY_MOST};
 
 const MOST_BYTES: usize = 60_000;
 
@@ -30,7 +31,7 @@ impl Rng {
 
 fn options(rng: &mut Rng, block: usize) -> BlockMatchOptions {
     BlockMatchOptions {
-        min_disparity: rng.pick(&[0, 0, 0, -2, 1, -4096, 4096]),
+        min_disparity: rng.pick(&[0, 0, 0, -2, 1, -FIRST_MOST, FIRST_MOST]),
         num_disparities: 1 + rng.below(8) as i32,
         block_size: block,
         min_correlation: rng.pick(&[0.5, 0.5, 0.0, -1.0, 0.9, f32::NEG_INFINITY, f32::INFINITY]),
@@ -39,8 +40,8 @@ fn options(rng: &mut Rng, block: usize) -> BlockMatchOptions {
         lr_max_diff: rng.pick(&[1.0, 1.0, 0.0, 0.5, f32::INFINITY]),
         subpixel: rng.below(2) == 0,
         semi_global: rng.below(2) == 0,
-        sgm_p1: rng.pick(&[0.1, 0.1, 0.0, -0.0, 2.5, 1024.0]),
-        sgm_p2: rng.pick(&[1.5, 1.5, 0.0, 0.05, 1024.0]),
+        sgm_p1: rng.pick(&[0.1, 0.1, 0.0, -0.0, 2.5, PENALTY_MOST]),
+        sgm_p2: rng.pick(&[1.5, 1.5, 0.0, 0.05, PENALTY_MOST]),
     }
 }
 

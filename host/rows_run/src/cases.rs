@@ -1,6 +1,7 @@
 //! Maps to be indexed and edited: good ones, with equal numbers, zeros of both signs, infinities and rows without a valid cell, and
 //! ones with one fault or more; and edits of every kind.
 use rows_run::index;
+use runs::limits::SIDE_MOST;
 use runs::maps::{MadeMap, Number, nan};
 use runs::recipes::Recipe;
 use runs::rng::Rng;
@@ -148,7 +149,7 @@ impl Made {
         if !rng.one_in(20) {
             return self.good(rng);
         }
-        let long = rng.pick(&[2048, 2047, 1024, 257]);
+        let long = rng.pick(&[SIDE_MOST, SIDE_MOST - 1, 1024, 257]);
         let (width, height) = sizes::narrow(rng, long);
         self.good_of(rng, width, height);
     }
@@ -156,7 +157,7 @@ impl Made {
     /// A pixel outside the map: in the next column or row, or so far that the cell's place might go round.
     fn outside(&self, rng: &mut Rng, pixel: (usize, usize)) -> (&'static str, usize, usize) {
         let (width, height) = (self.map.width, self.map.height);
-        let far = |n: usize| [usize::MAX, usize::MAX - n, 1 << 63, 1 << 62, 1 << 61, n + (1 << 32), n + (1 << 63), n + 2048];
+        let far = |n: usize| [usize::MAX, usize::MAX - n, 1 << 63, 1 << 62, 1 << 61, n + (1 << 32), n + (1 << 63), n + SIDE_MOST];
         let (x, y) = match rng.below(6) {
             0 => return (OUTSIDE[0], width, pixel.1),
             1 => return (OUTSIDE[0], pixel.0, height),
@@ -227,7 +228,7 @@ impl Made {
     /// Something wrong with the size or the length: 23; the index has the records of the good map or of this one.
     fn spoil_size(&mut self, rng: &mut Rng) {
         self.map.spoil_size(rng);
-        if rng.one_in(2) && self.map.height < 5000 {
+        if rng.one_in(2) && self.map.height <= 2 * SIDE_MOST {
             self.records = self.map.height;
         }
     }

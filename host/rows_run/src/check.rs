@@ -3,6 +3,7 @@ use crate::cases::{Edit, Made};
 use crate::lent::Lent;
 use plombrisa::{Map, Refusal, RowIndex, RowRecord, edit_cell_in, fresh_index_in, valid_count};
 use rows_run::index::{self, Row};
+use runs::limits::SIDE_MOST;
 use runs::same::equal;
 
 /// What the library is lent, kept from input to input, and the cells as they should be.
@@ -29,7 +30,7 @@ fn records_of(rows: &[Row]) -> Vec<RowRecord> {
 
 /// Records that are of no map, to be lent.
 fn stale(records: usize) -> impl Iterator<Item = RowRecord> {
-    (0..records).map(|i| RowRecord { count: 5000 + i, least: i as f32 + 0.25, greatest: -0.0 })
+    (0..records).map(|i| RowRecord { count: SIDE_MOST + 1 + i, least: i as f32 + 0.25, greatest: -0.0 })
 }
 
 /// The map of some cells, with the size that the input says it has.

@@ -1,5 +1,6 @@
 //! The row index in plain Rust, written from the request's text alone, so that the library is held to another reading of it. Nothing
 //! here calls the library. A refusal is its number.
+use runs::limits::is_map;
 
 /// What the index holds of one row: how many of its cells are valid, and the least and the greatest of those, where there are any.
 #[derive(Debug, Clone, Copy, PartialEq)]
@@ -27,16 +28,10 @@ pub fn rows(cells: &[f32], width: usize) -> Vec<Row> {
     cells.chunks(width).map(row).collect()
 }
 
-/// Whether a map of so many cells can have this size.
-fn good_size(cells: usize, width: usize, height: usize) -> bool {
-    let side = |n: usize| (1..=2048).contains(&n);
-    side(width) && side(height) && cells == width * height
-}
-
 /// The index worked out afresh from a map, beside which there is room for some records.
 pub fn fresh(cells: &[f32], width: usize, height: usize, records: usize) -> Result<Vec<Row>, u32> {
     match () {
-        () if !good_size(cells.len(), width, height) => Err(23),
+        () if !is_map(cells.len(), width, height) => Err(23),
         () if records != height => Err(28),
         () => Ok(rows(cells, width)),
     }
@@ -47,7 +42,7 @@ pub fn edit(
     cells: &mut [f32], width: usize, height: usize, x: usize, y: usize, value: f32, records: usize,
 ) -> Result<Row, u32> {
     match () {
-        () if !good_size(cells.len(), width, height) => Err(23),
+        () if !is_map(cells.len(), width, height) => Err(23),
         () if x >= width || y >= height => Err(26),
         () if records != height => Err(28),
         () => {

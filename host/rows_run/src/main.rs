@@ -10,9 +10,11 @@ mod lent;
 
 use cases::{Edit, Made, ODD};
 use check::Both;
+use runs::limits::SIDE_MOST;
 use runs::program::seed_and_count;
 use runs::recipes::follow_one;
 use runs::rng::Rng;
+use runs::sizes::SQUARE_MOST;
 use runs::tally::Tally;
 
 /// The calls, with the refusals that they answer.
@@ -51,7 +53,7 @@ fn every_odd_row(run: &mut Run, made: &mut Made, rng: &mut Rng) {
 
 /// Six cells as a map of many sizes, beside indexes of many lengths, edited at many pixels: every combination.
 fn every_fault(run: &mut Run, made: &mut Made, rng: &mut Rng) {
-    let sides = [0, 1, 2, 3, 6, 2048, 2049, 1 << 63, usize::MAX];
+    let sides = [0, 1, 2, 3, 6, SIDE_MOST, SIDE_MOST + 1, 1 << 63, usize::MAX];
     let pixels = [0, 1, 2, 3, 6, 1 << 32, usize::MAX];
     let kind = "edit: every pixel, beside every index and every size";
     for (width, height) in sides.iter().flat_map(|&width| sides.map(|height| (width, height))) {
@@ -65,15 +67,16 @@ fn every_fault(run: &mut Run, made: &mut Made, rng: &mut Rng) {
     }
 }
 
-/// A side that is too long by one, with cells and records that fit it, and the largest map of all.
+/// A side that is too long by one, with cells and records that fit it, the longest sides, and the largest square.
 fn largest(run: &mut Run, made: &mut Made, rng: &mut Rng) {
-    for (width, height) in [(2049, 1), (1, 2049), (2048, 1), (1, 2048), (2048, 2048)] {
+    let long = SIDE_MOST + 1;
+    for (width, height) in [(long, 1), (1, long), (SIDE_MOST, 1), (1, SIDE_MOST), (SQUARE_MOST, SQUARE_MOST)] {
         made.good_of(rng, width, height);
         let kind = "edit: a corner of the largest maps";
         for (x, y) in [(0, 0), (width - 1, height - 1)] {
             made.edits.push(Edit { kind, x, y, value: Some(-f32::MAX) });
         }
-        run.follow("sides of 2,048 and 2,049", made);
+        run.follow("the longest sides, and sides that are longer by one", made);
     }
 }
 

@@ -2,10 +2,11 @@
 //! it must turn away.
 use heap::scene::Scene;
 use plombrisa::{Intrinsics, Map, Options, Picture, Verdict, check_vendor, cover, match_block, points, read_pfm};
+use runs::limits::{BLOCK_MOST, COUNT_MOST, FIRST_MOST, SIDE_MOST};
 use runs::program::program_at;
 use std::fs;
 use std::path::{Path, PathBuf};
-use volume_run::measure::{self, Ground, Measured};
+use volume_run::measure::{self, CELL_LEAST, CELL_MOST, FARTHEST, Ground, Measured};
 
 const LEFT: &str = concat!(env!("CARGO_MANIFEST_DIR"), "/example/left.pgm");
 const RIGHT: &str = concat!(env!("CARGO_MANIFEST_DIR"), "/example/right.pgm");
@@ -235,21 +236,24 @@ fn the_readme_says_what_is_measured() {
 
 #[test]
 fn heaps_that_are_refused() {
+    let [small, large] = [CELL_LEAST - 1, CELL_MOST + 1].map(|side| side.to_string());
+    let [low, high] = [-FARTHEST - 1, FARTHEST + 1].map(|edge| edge.to_string());
+    let many = (COUNT_MOST + 1).to_string();
     let refusals: [(&[&str], &str); 13] = [
         (&["--fx", "0"], "the camera: refused, 21: "),
         (&["--cy", "NaN"], "the camera: refused, 21: "),
         (&["--baseline", "0"], "the camera: refused, 22: "),
-        (&["--cell", "9"], "the heap: refused, 51: "),
-        (&["--cell", "10001", "--floor", "100001"], "the heap: refused, 51: "),
-        (&["--floor", "100001"], "the heap: refused, 52: "),
-        (&["--left", "-100001", "--right", "-100001"], "the heap: refused, 52: "),
+        (&["--cell", &small], "the heap: refused, 51: "),
+        (&["--cell", &large, "--floor", &high], "the heap: refused, 51: "),
+        (&["--floor", &high], "the heap: refused, 52: "),
+        (&["--left", &low, "--right", &low], "the heap: refused, 52: "),
         // half a metre more than a hundred metres away at disparity 5
         (&["--baseline", "8.375", "--right", "-7000"], "the heap: refused, 52: "),
         (&["--right", "-7000"], "the heap: refused, 53: "),
         (&["--bottom", "7001", "--cell", "10"], "the heap: refused, 53: "),
         (&["--cell", "10"], "the heap: refused, 54: "),
         (&["--block-size", "4", "--cell", "10"], "refused, 4: "),
-        (&["--num-disparities", "257"], "refused, 7: "),
+        (&["--num-disparities", &many], "refused, 7: "),
     ];
     for (options, said) in refusals {
         let ended = measured(LEFT, RIGHT, &[&["--num-disparities", "24"], options].concat());
@@ -401,11 +405,12 @@ fn checks_that_are_refused() {
     refused(map_name, RIGHT, &whole, &[], &format!("{map_name}: refused, 41: "));
     refused(LEFT, "/nowhere/right.pgm", &whole, &[], "/nowhere/right.pgm: cannot be read: ");
     refused(LEFT, RIGHT, &whole, &["--block-size", "4"], &format!("{}4: ", all(&whole)));
-    refused(LEFT, RIGHT, &whole, &["--num-disparities", "257"], &format!("{}7: ", all(&whole)));
+    refused(LEFT, RIGHT, &whole, &["--num-disparities", &(COUNT_MOST + 1).to_string()], &format!("{}7: ", all(&whole)));
 }
 
 #[test]
 fn malformed_files_are_named_with_their_refusal() {
+    let too_wide = format!("P5\n{} 1\n255\n", SIDE_MOST + 1);
     let hand_made: [(&str, &[u8], &str); 9] = [
         ("empty", b"", "41"),
         ("plain", b"P2\n2 1\n255\n7 8\n", "41"),
@@ -413,7 +418,7 @@ fn malformed_files_are_named_with_their_refusal() {
         ("maximum", b"P5\n2 1\n254\nab", "42"),
         ("two_bytes", b"P5\n2 1\n65535\nabcd", "42"),
         ("no_width", b"P5\n0 1\n255\n", "43"),
-        ("too_wide", b"P5\n2049 1\n255\n", "43"),
+        ("too_wide", too_wide.as_bytes(), "43"),
         ("cut", b"P5\n2 1\n255\na", "44"),
         ("left_over", b"P5\n2 1\n255\nabc", "44"),
     ];
@@ -435,10 +440,10 @@ fn pictures_that_the_matcher_refuses() {
     turned_away(LEFT, small, "sizes", &[], &[LEFT, small, "refused, 3: "]);
     turned_away(small, small, "small", &[], &[small, "refused, 8: "]);
     turned_away(LEFT, RIGHT, "even", &["--block-size", "4"], &[LEFT, RIGHT, "refused, 4: "]);
-    turned_away(LEFT, RIGHT, "large", &["--block-size", "33"], &["refused, 5: "]);
+    turned_away(LEFT, RIGHT, "large", &["--block-size", &(BLOCK_MOST + 2).to_string()], &["refused, 5: "]);
     turned_away(LEFT, RIGHT, "none", &["--num-disparities", "0"], &["refused, 6: "]);
-    turned_away(LEFT, RIGHT, "many", &["--num-disparities", "257"], &["refused, 7: "]);
-    turned_away(LEFT, RIGHT, "first", &["--min-disparity", "5000"], &["refused, 9: "]);
+    turned_away(LEFT, RIGHT, "many", &["--num-disparities", &(COUNT_MOST + 1).to_string()], &["refused, 7: "]);
+    turned_away(LEFT, RIGHT, "first", &["--min-disparity", &(FIRST_MOST + 1).to_string()], &["refused, 9: "]);
     turned_away(LEFT, RIGHT, "penalty", &["--semi-global", "--sgm-p1", "NaN"], &["refused, 10: "]);
 }
 

@@ -1,6 +1,7 @@
 //! Vendors' maps to be checked, each with its pair, its options and the room: maps that pass, maps with cells that must not, and inputs
 //! with one fault or more.
 use plombrisa::{Options, Picture, match_block, whole_cells};
+use runs::limits::{BLOCK_MOST, COUNT_MOST, FIRST_MOST, SIDE_MOST};
 use runs::maps::{MadeMap, Output, nan};
 use runs::pictures::{other_picture, picture};
 use runs::recipes::{Recipe, Step, take_one};
@@ -76,7 +77,7 @@ fn least_correlation(rng: &mut Rng) -> f32 {
 /// A search: mostly one that the pictures show something of.
 fn searched(rng: &mut Rng) -> (i32, i32) {
     let near = rng.within(-8, 4) as i32;
-    let first = if rng.one_in(20) { rng.pick(&[-30, 30, -4096, 4096]) } else { near };
+    let first = if rng.one_in(20) { rng.pick(&[-30, 30, -FIRST_MOST, FIRST_MOST]) } else { near };
     (first, if rng.one_in(8) { 1 } else { rng.within(1, 20) as i32 })
 }
 
@@ -354,7 +355,7 @@ impl Made {
     /// A side outside its range, with as many bytes as fit it or not: 1.
     fn spoil_side(&mut self, rng: &mut Rng) {
         let side = sizes::unfit_side(rng);
-        let long = rng.pick(&[(2049, 1), (1, 2049), (0, 1), (1, 0)]);
+        let long = rng.pick(&[(SIDE_MOST + 1, 1), (1, SIDE_MOST + 1), (0, 1), (1, 0)]);
         let way = rng.below(3);
         let picture = self.one_picture(rng);
         match way {
@@ -380,12 +381,12 @@ impl Made {
 
     /// A block that is zero or even: 4.
     fn spoil_block_even(&mut self, rng: &mut Rng) {
-        self.options.block_size = rng.pick(&[0, 2, 4, 30, 32, 64, 1 << 32, 1 << 63, usize::MAX - 1]);
+        self.options.block_size = rng.pick(&[0, 2, 4, BLOCK_MOST - 1, BLOCK_MOST + 1, 64, 1 << 32, 1 << 63, usize::MAX - 1]);
     }
 
-    /// An odd block over 31: 5.
+    /// An odd block that is too large: 5.
     fn spoil_block_large(&mut self, rng: &mut Rng) {
-        self.options.block_size = rng.pick(&[33, 35, 65, 257, (1 << 32) + 3, (1 << 63) + 3, usize::MAX]);
+        self.options.block_size = rng.pick(&[BLOCK_MOST + 2, BLOCK_MOST + 4, 65, 257, (1 << 32) + 3, (1 << 63) + 3, usize::MAX]);
     }
 
     /// No disparity, or fewer: 6.
@@ -395,18 +396,19 @@ impl Made {
 
     /// Too many disparities: 7.
     fn spoil_count_many(&mut self, rng: &mut Rng) {
-        self.options.num_disparities = rng.pick(&[257, 257, 258, 1000, 65_537, i32::MAX]);
+        self.options.num_disparities = rng.pick(&[COUNT_MOST + 1, COUNT_MOST + 1, COUNT_MOST + 2, 4 * COUNT_MOST, 65_537, i32::MAX]);
     }
 
     /// A block that the pictures are too narrow or too low for: 8.
     fn spoil_block_wide(&mut self, rng: &mut Rng) {
         let wide = (self.width.min(self.height) + 1) | 1;
-        self.options.block_size = rng.pick(&[wide, wide, (wide + 2).min(31), 31]);
+        self.options.block_size = rng.pick(&[wide, wide, (wide + 2).min(BLOCK_MOST), BLOCK_MOST]);
     }
 
     /// A first disparity outside its range: 9.
     fn spoil_first(&mut self, rng: &mut Rng) {
-        self.options.min_disparity = rng.pick(&[-4097, 4097, -4098, 5000, 65_536, -65_536, i32::MIN, i32::MAX]);
+        let (below, above) = (-FIRST_MOST - 1, FIRST_MOST + 1);
+        self.options.min_disparity = rng.pick(&[below, above, below - 1, above + 1000, 65_536, -65_536, i32::MIN, i32::MAX]);
     }
 
     /// A map that is not of the pictures' size, be it one of its own or none: 23.

@@ -11,6 +11,7 @@ mod check;
 use cases::{Made, Must};
 use check::Both;
 use plombrisa::Options;
+use runs::limits::{BLOCK_MOST, COUNT_MOST, FIRST_MOST, SIDE_MOST};
 use runs::pictures::textured_pair;
 use runs::program::seed_and_count;
 use runs::recipes::follow_one;
@@ -44,8 +45,8 @@ fn textured(made: &mut Made, rng: &mut Rng, width: usize, height: usize, options
 /// Each cell of a map that passes is made each of many numbers that are disparities, hardly any, or none.
 fn every_odd_cell(run: &mut Run, made: &mut Made, rng: &mut Rng) {
     let odd = [
-        0.0, 1e-45, 0.5, 0.99999994, 1.0, 1.0000001, 1.5, 2.0, 3.0, 4.0, 5.0, 6.0, 4096.0, 65_536.0, 4_294_967_296.0, f32::MAX,
-        f32::INFINITY, f32::NAN,
+        0.0, 1e-45, 0.5, 0.99999994, 1.0, 1.0000001, 1.5, 2.0, 3.0, 4.0, 5.0, 6.0, FIRST_MOST as f32, 65_536.0, 4_294_967_296.0,
+        f32::MAX, f32::INFINITY, f32::NAN,
     ];
     let options = Options { min_disparity: -2, num_disparities: 6, block_size: 3, min_correlation: 0.0, ..Options::default() };
     textured(made, rng, 9, 5, options);
@@ -97,8 +98,12 @@ fn every_two_faults(run: &mut Run, made: &mut Made, rng: &mut Rng) {
 /// The longest sides, the largest block and the most disparities, and the first disparities at both ends of their range: the library's
 /// own block map, and the same with the last cell changed.
 fn largest(run: &mut Run, made: &mut Made, rng: &mut Rng) {
-    let searches = [(-128, 256), (0, 256), (-4096, 256), (4096, 1), (0, 1), (-4, 24)];
-    let sizes = [(2048, 1, 1), (1, 2048, 1), (2048, 3, 3), (3, 2048, 3), (31, 31, 31), (90, 33, 31), (2048, 31, 31), (300, 200, 7)];
+    let (long, block, most) = (SIDE_MOST, BLOCK_MOST, COUNT_MOST);
+    let searches = [(-most / 2, most), (0, most), (-FIRST_MOST, most), (FIRST_MOST, 1), (0, 1), (-4, 24)];
+    let sizes = [
+        (long, 1, 1), (1, long, 1), (long, 3, 3), (3, long, 3), (block, block, block), (90, block + 2, block), (long, block, block),
+        (300, 200, 7),
+    ];
     for (width, height, block_size) in sizes {
         for (min_disparity, num_disparities) in searches {
             // the plain Rust holds all the raw costs at once

@@ -4,9 +4,11 @@
 //! `peers cells FILE..` prints each PFM file as its width and height, and then the bits of its cells, the top row first.
 //! `peers write MAP FILE` writes a map that is given as `cells` prints it.
 //! `peers write-levels PLAIN FILE` writes the map of a plain PGM file, each level divided by the maximum.
+//! `peers longest-side` prints the longest side of a file.
 //!
 //! A file that is refused is printed as the word `refused` and the number.
 use plombrisa::{Map, OwnedMap, OwnedPicture, read_pfm, read_pgm, write_pfm};
+use runs::limits::SIDE_MOST;
 use std::fs;
 
 fn print_picture(picture: &OwnedPicture) {
@@ -69,6 +71,7 @@ fn main() {
         }
         ["write", map, file] => write(map_of_bits(map).map(), file),
         ["write-levels", plain, file] => write(map_of_levels(plain).map(), file),
-        _ => panic!("peers levels FILE.. | cells FILE.. | write MAP FILE | write-levels PLAIN FILE"),
+        ["longest-side"] => println!("{SIDE_MOST}"),
+        _ => panic!("peers levels FILE.. | cells FILE.. | write MAP FILE | write-levels PLAIN FILE | longest-side"),
     }
 }

@@ -1,4 +1,5 @@
 //! The inputs, by kind.
+use runs::limits::{BLOCK_MOST, FIRST_MOST};
 use runs::pictures::{other_picture, picture};
 use runs::rng::Rng;
 
@@ -66,12 +67,14 @@ fn largest_maps(rng: &mut Rng) -> Vec<Vec<u8>> {
 /// Maps of any size, among them those with the first disparities at the ends of what is taken.
 fn any_maps(rng: &mut Rng) -> Vec<Vec<u8>> {
     let mut made = Vec::new();
+    // a field has four digits at most
+    let most = FIRST_MOST.min(9999);
     for flags in flags() {
         for _ in 0..24 {
             let block = rng.pick(&[1, 3, 3, 3, 5, 7, 15]);
             let (width, height) = (block + rng.below(25 - block), block + rng.below(17 - block));
-            let near = rng.within(-8, 8);
-            let first = rng.pick(&[0, near, near, near, -4096, 4096]);
+            let near = rng.within(-8, 8) as i32;
+            let first = rng.pick(&[0, near, near, near, -most, most]);
             let line = format!("{width} {height} {first} {} {block} {flags}", rng.within(1, 8));
             made.push(pair_behind(&line, width, height, rng));
         }
@@ -123,13 +126,14 @@ fn refused(name: &'static str, head: &'static str, lines: &[(usize, usize, i32, 
 
 /// Each number, also where numbers that come later in the table apply as well.
 fn all_refused() -> Vec<Kind> {
+    let (block, even, large, far) = (BLOCK_MOST, BLOCK_MOST + 1, BLOCK_MOST + 2, FIRST_MOST + 1);
     vec![
         refused("an empty picture", "REFUSED 1", &[(0, 3, 0, 2, 3), (5, 0, 0, 2, 3), (0, 0, 0, 2, 3), (0, 16, 9999, 0, 2)]),
-        refused("an even block", "REFUSED 4", &[(5, 3, 0, 2, 0), (5, 3, 0, 2, 2), (5, 3, 0, 2, 32), (24, 16, 9999, 0, 9998)]),
-        refused("an odd block over 31", "REFUSED 5", &[(5, 3, 0, 2, 33), (24, 16, 0, 8, 33), (5, 3, 9999, 0, 9999)]),
-        refused("no disparity", "REFUSED 6", &[(5, 3, 0, 0, 3), (24, 16, 0, 0, 1), (5, 3, 9999, 0, 31)]),
-        refused("a picture smaller than the block", "REFUSED 8", &[(5, 3, 0, 2, 5), (3, 5, 0, 2, 5), (24, 16, 9999, 8, 31)]),
-        refused("a first disparity too far out", "REFUSED 9", &[(5, 3, 4097, 2, 3), (5, 3, -4097, 2, 3), (24, 16, -9999, 8, 3)]),
+        refused("an even block", "REFUSED 4", &[(5, 3, 0, 2, 0), (5, 3, 0, 2, 2), (5, 3, 0, 2, even), (24, 16, 9999, 0, 9998)]),
+        refused("an odd block that is too large", "REFUSED 5", &[(5, 3, 0, 2, large), (24, 16, 0, 8, large), (5, 3, 9999, 0, 9999)]),
+        refused("no disparity", "REFUSED 6", &[(5, 3, 0, 0, 3), (24, 16, 0, 0, 1), (5, 3, 9999, 0, block)]),
+        refused("a picture smaller than the block", "REFUSED 8", &[(5, 3, 0, 2, 5), (3, 5, 0, 2, 5), (24, 16, 9999, 8, block)]),
+        refused("a first disparity too far out", "REFUSED 9", &[(5, 3, far, 2, 3), (5, 3, -far, 2, 3), (24, 16, -9999, 8, 3)]),
     ]
 }
 
