@@ -1,14 +1,14 @@
 -- The column that the left-right test looks up: it is a number, and inside the row it is an index. Assumes nothing.
 use Prim.Native.Nat.{ℕ, _+_, _-_, _*_, _^_, _<_, _≤_}
 use mathlib.Core.Path.{_≡_, refl, sym, _∙_}
-use mathlib.Core.Bool.{Bool, Bool·beq, true, false, not, cond, _&&_, _||_, true≢false}
+use mathlib.Core.Bool.{Bool, Bool·beq, true, false, not, cond, _&&_, true≢false, and-true}
 use native.Mathlib.Nat.{mul-one, mul-right-comm, lt-of-mul-lt-mul-right, div-lt-iff-lt-mul, mul-le-mul-right}
 use native.Mathlib.Numerals.{lt-of-le-of-ne}
 use native.Mathlib.Omega.{arith}
 use lib.Dec.{T, ltb, eqb, lt→ltb}
 use lib.IntN.{pos}
 use borrow.Author.Tests.{ltb-false, eqb-false}
-use lib.Ieee.{Float, Format, nan, inf, fin, binary32, lt, le, eq, neg, add, sub, sum, round, ofInt, toUnsigned, isNan, up, down, low}
+use lib.Ieee.{Float, Format, nan, inf, fin, binary32, lt, le, eq, neg, add, sub, sum, round, ofInt, toUnsigned, isNan, up, down}
 use lib.Ieee.Fits.{down-pos}
 use lib.Ieee.Exact.{HasValue}
 use lib.Ieee.Scale.{finite}
@@ -51,10 +51,6 @@ column-number x d h t =
 
 -- ---- inside the row
 
-and-true : (a : Bool) → a && true ≡ false → a ≡ false
-and-true true h = h
-and-true false h = h
-
 -- what the tests on a column ask of it as an index
 pub record Index (xr : Float) (w : ℕ) : Type 0 where
   pub above : T (lt (fin true 1 (pos 0)) xr)
@@ -65,7 +61,7 @@ pub record Index (xr : Float) (w : ℕ) : Type 0 where
 below-value : (n d w k g : ℕ) → k ≡ w * g → n * g < k * d → n < w * d
 below-value n d w k g e h = lt-of-mul-lt-mul-right g (rw (e, mul-right-comm w g d) at h)
 
-in-width : (wf xr : Float) (w : ℕ) → HasValue wf false w 1 → 0 < w → w ≤ 2048 → T (not (isNan xr)) → lt xr (fin false 0 (pos 0)) ≡ false → le wf xr ≡ false → Index xr w
+in-width : (wf xr : Float) (w : ℕ) → HasValue wf false w 1 → 0 < w → w ≤ 2 ^ 24 → T (not (isNan xr)) → lt xr (fin false 0 (pos 0)) ≡ false → le wf xr ≡ false → Index xr w
 unfolding le lt eq toUnsigned isNan
 in-width nan xr w v W S n l h = absurd v
 in-width (inf t) xr w v W S n l h = absurd v
@@ -83,7 +79,7 @@ in-width (fin false k g) (fin true m e) w v W S n l h =
 in-width (fin false k g) (fin false m e) w v W S n l h =
     let tests = or-false (ltb (k * up g * down e) (m * up e * down g)) (eqb (k * up g * down e) (m * up e * down g) && true) h in
     let le' : m * up e * down g ≤ k * up g * down e = ltb-false _ _ (tests .0) in
-    let ne' = eqb-false (k * up g * down e) (m * up e * down g) (and-true _ (tests .1)) in
+    let ne' = eqb-false (k * up g * down e) (m * up e * down g) (sym (and-true _) ∙ tests .1) in
     let value : k * up g ≡ w * down g = sym (mul-one (k * up g)) ∙ v .1 in
     let small : m * up e < w * down e = below-value (m * up e) (down e) w (k * up g) (down g) value (lt-of-le-of-ne le' (λ q. ne' (sym q))) in
     let low' : m * up e < 2 ^ 64 * down e = omega (arith, small, mul-le-mul-right (down e) S) in
@@ -94,6 +90,6 @@ in-width (fin false k g) (fin false m e) w v W S n l h =
       inside = rw (cut (m * up e) (down e) (down-pos e) (fin false m e) own low') (div-lt-iff-lt-mul (down-pos e) .1 small);
     }
 
-pub column-index : (xr : Float) (w : ℕ) → 0 < w → w ≤ 2048 → T (not (isNan xr)) → lt xr (fin false 0 (pos 0)) ≡ false → le (ofInt binary32 (pos w)) xr ≡ false → Index xr w
+pub column-index : (xr : Float) (w : ℕ) → 0 < w → w ≤ 2 ^ 24 → T (not (isNan xr)) → lt xr (fin false 0 (pos 0)) ≡ false → le (ofInt binary32 (pos w)) xr ≡ false → Index xr w
 unfolding ofInt
-column-index xr w W S n l h = in-width (round binary32 false w 1) xr w (round-whole binary32 false w (omega arith)) W S n l h
+column-index xr w W S n l h = in-width (round binary32 false w 1) xr w (round-whole binary32 false w S) W S n l h

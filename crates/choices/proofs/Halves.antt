@@ -1,13 +1,12 @@
 -- Two rows of numbers, one after the other: their cells, and a cell that is set. Assumes nothing.
-use Prim.Native.Nat.{ℕ, zero, suc, _+_, _-_, _<_, _≤_}
-use mathlib.Core.Path.{_≡_, refl, sym, ap, ap₂, _∙_}
+use Prim.Native.Nat.{ℕ, zero, suc, _+_, _<_}
+use mathlib.Core.Path.{_≡_, sym, ap, ap₂, _∙_}
 use mathlib.Core.List.{List, [], _∷_, _++_}
-use mathlib.Core.Logic.{⊎-elim}
 use native.Mathlib.Nat.{not-suc-le-zero, le-of-suc-le-suc, zero-lt-suc, zero-add, suc-add}
 use native.Mathlib.Omega.{arith}
 use lib.Ieee.{Float, nan}
-use lib.ListN.{length, getD, set, take, drop, length-append, length-take, length-drop, take-append-drop, List·getD-append}
-use lib.Seq.{ext-getD, getD-append-add, set-append-left, getD-take, getD-drop, length-take-le, set-out}
+use lib.ListN.{length, getD, set, take, drop, length-append, length-drop, take-append-drop, List·getD-append}
+use lib.Seq.{ext-getD, getD-append-add, set-append-left, getD-take, getD-drop, length-take-le}
 use Rattle.lists.specs.Lists.{listOf}
 use Rattle.lists.proofs.Lists.{listOf-length, listOf-at, listOf-same}
 use Rattle.choices.specs.Leading.{halves}

@@ -1,12 +1,11 @@
 -- Indices as floats: their order is that of the indices, and the cast back gives the index. Assumes nothing.
-use Prim.Native.Nat.{ℕ, _+_, _-_, _*_, _^_, _<_, _≤_}
-use mathlib.Core.Path.{_≡_, refl, sym, ap, ap₂, _∙_}
+use Prim.Native.Nat.{ℕ, _+_, _-_, _*_, _^_, _≤_}
+use mathlib.Core.Path.{_≡_, sym, ap₂, _∙_}
 use mathlib.Core.Bool.{true, false, true≢false, _||_}
 use native.Mathlib.Nat.{mul-one, mul-right-comm, mul-le-mul-right, mul-lt-mul-of-pos-right}
 use native.Mathlib.Omega.{arith}
 use lib.Dec.{T, ltb, le→leb}
-use lib.IntN.{pos}
-use lib.Ieee.{Float, nan, inf, fin, binary32, lt, ofInt, round, inFloat, inUnsigned, toUnsigned, up, down}
+use lib.Ieee.{Float, nan, inf, fin, binary32, lt, ofInt, inFloat, inUnsigned, toUnsigned, up, down}
 use lib.Ieee.Exact.{HasValue}
 use lib.Ieee.Back.{round-whole, unsigned-back}
 use lib.Ieee.Fits.{down-pos}

@@ -7,7 +7,7 @@ use native.Mathlib.Numerals.{add-one}
 use native.Mathlib.Omega.{arith}
 use lib.IntN.{pos}
 use lib.Ieee.{Float, nan, inf, fin, lt, ofInt}
-use lib.ListN.{length, getD, drop, replicate, replicate-append-replicate}
+use lib.ListN.{length, getD, replicate, replicate-append-replicate}
 use lib.Seq.{drop-at}
 use Rattle.lists.specs.Lists.{listOf, cleared}
 use Rattle.lists.proofs.Lists.{listOf-length, listOf-const}

@@ -1,36 +1,33 @@
 -- The map from its rows: the marks of the frame, and the rows inside it, one after the other. Assumes nothing.
-use Prim.Native.Nat.{ℕ, zero, suc, _+_, _-_, _*_, _/_, _%_, _<_, _≤_}
+use Prim.Native.Nat.{ℕ, _+_, _-_, _*_, _/_, _%_, _<_, _≤_}
 use mathlib.Core.Path.{_≡_, refl, sym, ap, ap₂, _∙_}
-use mathlib.Core.Bool.{Bool, true, false, cond, _&&_}
-use mathlib.Core.List.{List, [], _∷_, _++_, map, append-nil, append-assoc}
+use mathlib.Core.Bool.{Bool, true, false, cond, and-true, and-false}
+use mathlib.Core.List.{List, _++_, append-nil, append-assoc}
 use mathlib.Core.Logic.{⊎-elim}
-use native.Mathlib.Nat.{mul-le-mul, mul-le-mul-right, mul-comm, suc-mul, add-mul, add-sub-cancel-left, div-lt-iff-lt-mul}
+use native.Mathlib.Nat.{mul-le-mul, mul-le-mul-right, mul-comm, suc-mul, add-mul, div-lt-iff-lt-mul}
 use native.Mathlib.Numerals.{add-one}
 use native.Mathlib.Omega.{arith}
-use borrow.Author.Tests.{lt-ltb, le-ltb, le-leb, lt-leb}
 use borrow.Rule.Slice.PartMut.{putMid, midOf, mid-len, same-len-mid}
-use lib.Dec.{leb, ltb}
-use lib.IntN.{ℤ}
-use lib.Ieee.{Float, nan, inf}
+use lib.Ieee.{Float, nan}
 use lib.ListN.{length, getD, take, drop, replicate, length-replicate, length-drop, drop-of-length-le}
 use lib.Seq.{take-at, take-append-add, length-take-le}
 use Rattle.lists.specs.Lists.{listOf, cleared}
-use Rattle.lists.specs.Turned.{turned, turnedCell}
+use Rattle.lists.specs.Turned.{turned}
 use Rattle.lists.proofs.Lists.{listOf-length, listOf-at, listOf-same, listOf-split, listOf-const}
 use Rattle.lists.proofs.Tests.{lt-or-le}
 use Rattle.lists.proofs.Rows.{in-column, in-row, cell-in, pixel-in}
 use Rattle.options.specs.Costs.{rawOf}
+use Rattle.options.specs.Frame.{within, inner}
 use Rattle.options.specs.Limits.{sideMost}
+use Rattle.options.proofs.Frames.{says-within, off-before, off-past}
 use Rattle.maps.specs.declared.Cell.the-variants.{Mark}
 use Rattle.maps.specs.Cells.{inBuffer}
 use Rattle.choices.specs.declared.block.Gates.{Gates}
-use Rattle.choices.specs.declared.block.Row.{Row}
 use Rattle.choices.specs.declared.subpixel.Search.{Search}
-use Rattle.choices.specs.Frame.{inner}
 use Rattle.choices.specs.Block.{costsOf, blockChoice, blockCell}
 use Rattle.choices.specs.Seen.{volumeSeen, seenCell, columnCosts, MapIn, RowIn}
 use Rattle.choices.specs.Leading.{halves}
-use Rattle.choices.specs.RowChoice.{columnCell, chosenRow, chosenAt}
+use Rattle.choices.specs.RowChoice.{columnCell, chosenAt}
 use Rattle.choices.proofs.Halves.{halves-length}
 
 -- ---- a cell of the map
@@ -44,13 +41,12 @@ seen-at true w h search raw k p l lp =
     listOf-at (search .count * (w * h)) _ (k * (w * h) + p) nan (cell-in k (search .count) p (w * h) _ l lp (omega arith))
     ∙ rw (in-row (w * h) p k lp, in-column (w * h) p k lp)
 
-and-true : (s t : Bool) → s && (t && true) ≡ s && t
-and-true true true = refl
-and-true true false = refl
-and-true false t = refl
+-- a row inside the frame, and one outside it
+inside-row : (w h r x y : ℕ) → x < w → r ≤ y → y < h - r → inner w h r (y * w + x) ≡ within w r x
+inside-row w h r x y lx low high = rw (in-column w x y lx, in-row w x y lx, says-within h r y low (omega arith)) (and-true (within w r x))
 
-inside-row : (w h r x y : ℕ) → x < w → r ≤ y → y < h - r → inner w h r (y * w + x) ≡ leb r x && ltb x (w - r)
-inside-row w h r x y lx low high = rw (in-column w x y lx, in-row w x y lx, le-leb r y low, lt-ltb y (h - r) high) (and-true (leb r x) (ltb x (w - r)))
+outside-row : (w h r p : ℕ) → within h r (p / w) ≡ false → inner w h r p ≡ false
+outside-row w h r p off = rw off (and-false (within w r (p % w)))
 
 module _ (turned : Bool) (w h r : ℕ) (search : Search) (gates : Gates) (raw : List Float) where
   -- the row's choice is the map's
@@ -58,34 +54,20 @@ module _ (turned : Bool) (w h r : ℕ) (search : Search) (gates : Gates) (raw : 
   unfolding columnCell blockCell columnCosts costsOf
   row-cell x y lx low high =
       rw (inside-row w h r x y lx low high)
-      (ap (λ c. inBuffer (cond (leb r x && ltb x (w - r)) (blockChoice search gates c) Mark))
+      (ap (λ c. inBuffer (cond (within w r x) (blockChoice search gates c) Mark))
       (listOf-same (search .count) _ _ (λ k l. ap rawOf (sym (seen-at turned w h search raw k (y * w + x) l (pixel-in w h x y lx (omega arith)))))))
 
   -- above and below the rows inside the frame there are marks
   pub above-marked : (p : ℕ) → 0 < w → p < r * w → chosenAt turned w h r search gates raw p ≡ nan
   unfolding blockCell
-  above-marked p some l =
-      let high : p / w < r = div-lt-iff-lt-mul some .1 l in
-      rw (lt-leb r (p / w) high) (ap (λ t. inBuffer (cond t (blockChoice search gates (costsOf (volumeSeen turned w h search raw) (w * h) p (search .count))) Mark)) (never (leb r (p % w)) (ltb (p % w) (w - r))))
-    where
-      never : (s t : Bool) → s && (t && false) ≡ false
-      never true true = refl
-      never true false = refl
-      never false t = refl
+  above-marked p some l = rw (outside-row w h r p (off-before h r (p / w) (div-lt-iff-lt-mul some .1 l)))
 
   pub below-marked : (p : ℕ) → 0 < w → (h - r) * w ≤ p → chosenAt turned w h r search gates raw p ≡ nan
   unfolding blockCell
-  below-marked p some l =
-      rw (le-ltb (p / w) (h - r) low) (ap (λ t. inBuffer (cond t (blockChoice search gates (costsOf (volumeSeen turned w h search raw) (w * h) p (search .count))) Mark)) (never (leb r (p % w)) (ltb (p % w) (w - r)) (leb r (p / w))))
+  below-marked p some l = rw (outside-row w h r p (off-past h r (p / w) (omega (arith, low))))
     where
       low : h - r ≤ p / w
       low = ⊎-elim (λ (m : p / w < h - r). absurd (let z : p < (h - r) * w = div-lt-iff-lt-mul some .0 m in omega arith)) (λ (m : h - r ≤ p / w). m) (lt-or-le (p / w) (h - r))
-
-      never : (s t u : Bool) → s && (t && (u && false)) ≡ false
-      never true true true = refl
-      never true true false = refl
-      never true false u = refl
-      never false t u = refl
 
 -- ---- the loop over the rows, where f is the map
 

@@ -1,15 +1,15 @@
 -- The loops over a part of a row, for the best and for the competitor. Assumes nothing.
 use Prim.Native.Nat.{ℕ, _+_, _≤_, _<_}
 use mathlib.Core.Path.{_≡_, refl, ap, ap₂, _∙_}
-use mathlib.Core.Bool.{Bool, true, false, cond, _&&_}
+use mathlib.Core.Bool.{true, cond, _&&_, and-false}
 use mathlib.Core.List.{List}
 use native.Mathlib.Omega.{arith}
 use lib.Ieee.{Float, nan, inf, lt}
-use lib.ListN.{length, getD, set, take}
+use lib.ListN.{length, getD, set}
 use lib.Seq.{take-all}
 use Rattle.numbers.proofs.Plainly.{none-below}
 use Rattle.choices.specs.Seen.{partAt}
-use Rattle.choices.specs.Leading.{halves, indexFloat, far, ledBy, rivalledBy}
+use Rattle.choices.specs.Leading.{indexFloat, far, ledBy, rivalledBy}
 use Rattle.choices.proofs.Halves.{halves-length}
 use Rattle.choices.proofs.Stepping.{upTo, step-none, read-first, read-second, step-first, step-second}
 
@@ -19,10 +19,6 @@ pub record PartInv (w : ℕ) (part : List Float) (end : ℕ) (is now : List Floa
   pub last : end ≡ length part
   pub long : length now ≡ w + w
   pub same : now ≡ is
-
-and-false : (t : Bool) → t && false ≡ false
-and-false true = refl
-and-false false = refl
 
 -- what the loop for the best does to a column's largest number and to its index
 abbrev pub leadMost : Float → Float → Float → Float

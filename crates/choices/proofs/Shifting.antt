@@ -1,10 +1,10 @@
 -- How far the cells of an index are moved, as the machine's signed numbers have it. Assumes nothing.
-use Prim.Native.Nat.{ℕ, suc, _+_, _≤_, _<_, _^_, min}
-use mathlib.Core.Path.{_≡_, refl, sym, ap, _∙_}
+use Prim.Native.Nat.{ℕ, suc, _≤_, _<_, _^_, min}
+use mathlib.Core.Path.{_≡_, refl, ap, _∙_}
 use mathlib.Core.Bool.{true, false, true≢false}
 use native.Mathlib.Nat.{zero-add}
 use native.Mathlib.Omega.{arith}
-use borrow.Author.Tests.{ltb-true, lt-ltb}
+use borrow.Author.Tests.{ltb-true}
 use lib.Dec.{T}
 use lib.IntN.{ℤ, pos, negsuc, natAbs, _+ℤ_, _-ℤ_}
 use lib.Signed.{ltZ, nonNeg}
@@ -64,7 +64,7 @@ module _ (d : ℤ) (f : SFits w32 d) (small : natAbs d ≤ shiftMost) where
 -- the disparity with an index, passed on as the machine's number
 module _ (first : ℤ) (k : ℕ) (z : ℤ) (is : z ≡ first +ℤ pos k) (small : natAbs first ≤ firstMost) (few : k < countMost) where
   pub sum-back : toZ w32 (ofZ w32 z) ≡ first +ℤ pos k
-  sum-back = rw is (toZ-ofZ w32 (first +ℤ pos k) (fits-of (first +ℤ pos k) (sum-natAbs first k 8192 (omega arith))))
+  sum-back = rw is (toZ-ofZ w32 (first +ℤ pos k) (fits-of (first +ℤ pos k) (sum-natAbs first k (2 ^ 24) (omega arith))))
 
   pub sum-near : natAbs (toZ w32 (ofZ w32 z)) ≤ shiftMost
   sum-near = rw sum-back (sum-natAbs first k shiftMost (omega arith))

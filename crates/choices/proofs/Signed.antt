@@ -15,19 +15,20 @@ use mir.ValLaws.{toZ-ofZ, toZ-pos}
 pub sum-natAbs : (z : ℤ) (k b : ℕ) → natAbs z + k ≤ b → natAbs (z +ℤ pos k) ≤ b
 sum-natAbs z k b h = le-trans (sum-size z (pos k)) h
 
-pub fits-of : (z : ℤ) → natAbs z ≤ 8192 → SFits w32 z
+-- 2^24, to which an f32 counts, is more than any disparity
+pub fits-of : (z : ℤ) → natAbs z ≤ 2 ^ 24 → SFits w32 z
 fits-of (pos a) h = record { sfits = omega arith }
 fits-of (negsuc a) h = record { sfits = omega arith }
 
 -- a float holds a small number exactly
-pub float-of : (z : ℤ) → natAbs z ≤ 8192 → T (inFloat binary32 z)
+pub float-of : (z : ℤ) → natAbs z ≤ 2 ^ 24 → T (inFloat binary32 z)
 unfolding inFloat
 float-of (pos a) h = le→leb a (2 ^ 24) (omega arith)
 float-of (negsuc a) h = lt→ltb a (2 ^ 24) (omega arith)
 
 module _ (first : ℤ) (k : ℕ) (back : toZ w32 (ofZ w32 first) ≡ first) (small : natAbs first ≤ firstMost) (few : k < countMost) where
-  pub sum-small : natAbs (first +ℤ pos k) ≤ 8192
-  sum-small = sum-natAbs first k 8192 (omega arith)
+  pub sum-small : natAbs (first +ℤ pos k) ≤ 2 ^ 24
+  sum-small = sum-natAbs first k (2 ^ 24) (omega arith)
 
   read : toZ w32 (ofZ w32 first) +ℤ toZ w32 k ≡ first +ℤ pos k
   read = rw (back, toZ-pos w32 k (omega arith))

@@ -1,17 +1,17 @@
 -- Where the cells of an index of a row lie in the volume, and that they are the row's numbers. Assumes nothing.
-use Prim.Native.Nat.{ℕ, zero, suc, _+_, _-_, _*_, _/_, _%_, _<_, _≤_, min}
-use mathlib.Core.Path.{_≡_, refl, sym, ap, ap₂, _∙_}
+use Prim.Native.Nat.{ℕ, zero, suc, _+_, _-_, _*_, _<_, _≤_, min}
+use mathlib.Core.Path.{_≡_, refl, sym, ap, _∙_}
 use mathlib.Core.Bool.{Bool, true, false, cond}
 use mathlib.Core.List.{List}
 use mathlib.Core.Logic.{⊎-elim}
-use native.Mathlib.Nat.{mul-le-mul, mul-le-mul-right, mul-comm, suc-mul, add-zero, zero-add, min-le-left, min-le-right, min-eq-left, le-min, add-sub-cancel-left, add-assoc}
+use native.Mathlib.Nat.{mul-le-mul, mul-comm, min-le-right, min-eq-left, le-min}
 use native.Mathlib.Omega.{arith}
-use borrow.Author.Tests.{lt-ltb, le-ltb, le-leb, lt-leb, ltb-true, ltb-false}
+use borrow.Author.Tests.{lt-ltb, le-ltb, le-leb, lt-leb}
 use lib.Dec.{leb, ltb}
-use lib.IntN.{ℤ, pos, negsuc, natAbs, negℤ, _+ℤ_}
+use lib.IntN.{ℤ, pos, negsuc, negℤ, _+ℤ_}
 use lib.Ieee.{Float, nan, inf, eq}
 use borrow.Rule.Slice.PartMut.{mid-len}
-use lib.ListN.{length, getD, take, drop, length-take, length-drop, List·getD-eq-default}
+use lib.ListN.{length, getD, take, drop, length-take, List·getD-eq-default}
 use lib.Seq.{getD-take, getD-drop}
 use Rattle.lists.specs.Turned.{inRow, turnedCell}
 use Rattle.lists.proofs.Tests.{lt-or-le}
@@ -22,7 +22,7 @@ use Rattle.choices.specs.declared.block.Row.{Row}
 use Rattle.choices.specs.declared.block.Shift.{Shift}
 use Rattle.choices.specs.declared.block.Span.{Span}
 use Rattle.choices.specs.declared.subpixel.Search.{Search}
-use Rattle.choices.specs.Seen.{RowSizes, RowIn, CellsInRange, seenCell, cellIn, movedBy, shiftOf, rowStart, spanOf, partAt}
+use Rattle.choices.specs.Seen.{RowSizes, RowIn, CellsInRange, seenCell, cellIn, movedBy, seenShift, rowStart, seenSpan, partAt}
 use Rattle.choices.proofs.Stepping.{default-free}
 
 -- a shift leaves the row's numbers within the row
@@ -33,7 +33,7 @@ moved-within : (w : ℕ) (d : ℤ) → Within w (movedBy w d)
 moved-within w (pos a) = record { both = omega (arith, min-le-right a w) }
 moved-within w (negsuc a) = record { both = omega (arith, min-le-right (suc a) w) }
 
-pub shift-within : (turned : Bool) (w : ℕ) (first : ℤ) (k : ℕ) → Within w (shiftOf turned w first k)
+pub shift-within : (turned : Bool) (w : ℕ) (first : ℤ) (k : ℕ) → Within w (seenShift turned w first k)
 shift-within false w first k = record { both = omega arith }
 shift-within true w first k = moved-within w (first +ℤ pos k)
 
@@ -120,7 +120,7 @@ row-same z w (negsuc x) f g h = refl
 
 -- what is lent for index k of a row
 abbrev pub lentOf : Row → Search → List Float → ℕ → List Float
-lentOf row search raw k = take (spanOf row search k .to - spanOf row search k .from) (drop (spanOf row search k .from) raw)
+lentOf row search raw k = take (seenSpan row search k .to - seenSpan row search k .from) (drop (seenSpan row search k .from) raw)
 
 module _ (raw : List Float) (w h : ℕ) (first : ℤ) (y k x : ℕ) (lx : x < w) where
   -- the volume as it stands
@@ -144,13 +144,13 @@ module _ (raw : List Float) (w h : ℕ) (first : ℤ) (y k x : ℕ) (lx : x < w)
 
 -- a span holds the row's numbers
 pub span-reads : (row : Row) (search : Search) (raw : List Float) (k x : ℕ) → RowIn row search raw → k < search .count → x < row .w
-    → partAt (spanOf row search k .lo) (lentOf row search raw k) x ≡ cellIn row search raw x k
+    → partAt (seenSpan row search k .lo) (lentOf row search raw k) x ≡ cellIn row search raw x k
 span-reads row search raw k x z l lx = go (row .turned) refl
   where
     within : rowStart row k + row .w ≤ length raw
     within = omega (arith, places row search k (z .sizes) l .ends, z .planes)
 
-    go : (t : Bool) → row .turned ≡ t → partAt (spanOf row search k .lo) (lentOf row search raw k) x ≡ cellIn row search raw x k
+    go : (t : Bool) → row .turned ≡ t → partAt (seenSpan row search k .lo) (lentOf row search raw k) x ≡ cellIn row search raw x k
     go false e = rw e (own-reads raw (row .w) (row .h) (search .first) (row .y) k x lx within)
     go true e = rw e (turned-reads raw (row .w) (row .h) (search .first) (row .y) k x lx)
 
@@ -161,11 +161,11 @@ pub record Lent (row : Row) (search : Search) (raw : List Float) (k : ℕ) (s : 
   pub fits : s .lo + length (take (s .to - s .from) (drop (s .from) raw)) ≤ row .w
   pub reads : (x : ℕ) → x < row .w → partAt (s .lo) (take (s .to - s .from) (drop (s .from) raw)) x ≡ cellIn row search raw x k
 
-pub lent : (row : Row) (search : Search) (raw : List Float) (k : ℕ) (s : Span) → s ≡ spanOf row search k → RowIn row search raw → k < search .count → Lent row search raw k s
+pub lent : (row : Row) (search : Search) (raw : List Float) (k : ℕ) (s : Span) → s ≡ seenSpan row search k → RowIn row search raw → k < search .count → Lent row search raw k s
 lent row search raw k s e z l =
     let p = places row search k (z .sizes) l in
     let s = shift-within (row .turned) (row .w) (search .first) k in
-    let long = mid-len (spanOf row search k .from) (spanOf row search k .to) raw (omega (arith, z .planes)) in
+    let long = mid-len (seenSpan row search k .from) (seenSpan row search k .to) raw (omega (arith, z .planes)) in
     rw e record { starts = omega arith; ends = omega (arith, z .planes); fits = omega (arith, long); reads = λ x lx. span-reads row search raw k x z l lx }
 
 -- ---- one number of the row, from the span
@@ -217,5 +217,5 @@ cell-range row search raw k x z all l lx =
     let p = places row search k (z .sizes) l in
     let s = shift-within (row .turned) (row .w) (search .first) k in
     rw (← span-reads row search raw k x z l lx)
-    (part-range (spanOf row search k .lo) (lentOf row search raw k) x
-    (mid-range raw (search .count * (row .w * row .h)) (spanOf row search k .from) (spanOf row search k .to) all (z .planes) (omega arith)))
+    (part-range (seenSpan row search k .lo) (lentOf row search raw k) x
+    (mid-range raw (search .count * (row .w * row .h)) (seenSpan row search k .from) (seenSpan row search k .to) all (z .planes) (omega arith)))

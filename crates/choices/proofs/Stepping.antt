@@ -8,7 +8,7 @@ use native.Mathlib.Nat.{add-sub-cancel-left, not-suc-le-zero, le-of-suc-le-suc, 
 use native.Mathlib.Omega.{arith}
 use borrow.Author.Tests.{le-leb, leb-true}
 use lib.Dec.{leb}
-use lib.Ieee.{Float, nan, inf, lt}
+use lib.Ieee.{Float, nan, inf}
 use lib.ListN.{length, getD, set, take, length-take, List·getD-eq-default}
 use lib.Seq.{getD-take}
 use Rattle.lists.proofs.Tests.{lt-or-le}

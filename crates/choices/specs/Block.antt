@@ -9,13 +9,13 @@ use Rattle.lists.specs.Lists.{listOf, walk}
 use Rattle.options.specs.declared.RawCost.{RawCost}
 use Rattle.options.specs.declared.RawCost.the-variants.{Blank, Corr}
 use Rattle.options.specs.Costs.{stored, rawOf}
+use Rattle.options.specs.Frame.{inner}
 use Rattle.maps.specs.declared.Cell.{Cell}
 use Rattle.maps.specs.declared.Cell.the-variants.{Mark, At}
 use Rattle.choices.specs.declared.block.Best.{Best}
 use Rattle.choices.specs.declared.block.Best.the-variants.{Nothing, Found}
 use Rattle.choices.specs.declared.block.Gates.{Gates}
 use Rattle.choices.specs.declared.subpixel.Search.{Search}
-use Rattle.choices.specs.Frame.{inner}
 use Rattle.choices.specs.Subpixel.{placed}
 
 -- the raw costs of pixel p by index: `count` planes of `area` cells, one after the other

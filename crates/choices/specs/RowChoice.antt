@@ -1,9 +1,9 @@
 -- Block choice in a row. Definitions only.
-use Prim.Native.Nat.{ℕ, _+_, _-_, _*_}
-use mathlib.Core.Bool.{Bool, true, cond, _&&_}
+use Prim.Native.Nat.{ℕ}
+use mathlib.Core.Bool.{Bool, true, cond}
 use mathlib.Core.List.{List}
-use lib.Dec.{leb, ltb}
 use lib.Ieee.{Float, inf}
+use Rattle.options.specs.Frame.{within}
 use Rattle.maps.specs.declared.Cell.{Cell}
 use Rattle.maps.specs.declared.Cell.the-variants.{Mark}
 use Rattle.maps.specs.Cells.{inBuffer}
@@ -36,7 +36,7 @@ rivalRow row search raw n = halves (row .w) (rivalIn row search raw n) (λ x. in
 
 -- the choice in column x: the mark in the frame of r columns
 unfoldable pub columnCell : Row → ℕ → Search → Gates → List Float → ℕ → Cell
-columnCell row r search gates raw x = cond (leb r x && ltb x (row .w - r)) (blockChoice search gates (columnCosts row search raw x)) Mark
+columnCell row r search gates raw x = cond (within (row .w) r x) (blockChoice search gates (columnCosts row search raw x)) Mark
 
 -- the choices of a row, with the indices of the best behind them
 abbrev pub chosenRow : Row → ℕ → Search → Gates → List Float → List Float

@@ -81,20 +81,20 @@ movedBy w (pos d) = record { lo = min d w; from = 0 }
 movedBy w (negsuc d) = record { lo = 0; from = min (suc d) w }
 
 -- where the cells of index k lie in their row
-abbrev pub shiftOf : Bool → ℕ → ℤ → ℕ → Shift
-shiftOf false w first k = record { lo = 0; from = 0 }
-shiftOf true w first k = movedBy w (first +ℤ pos k)
+abbrev pub seenShift : Bool → ℕ → ℤ → ℕ → Shift
+seenShift false w first k = record { lo = 0; from = 0 }
+seenShift true w first k = movedBy w (first +ℤ pos k)
 
 -- the first cell of index k of a row
 abbrev pub rowStart : Row → ℕ → ℕ
 rowStart row k = k * (row .w * row .h) + row .y * row .w
 
 -- where the cells of index k of a row lie in the volume
-abbrev pub spanOf : Row → Search → ℕ → Span
-spanOf row search k = record {
-  lo = shiftOf (row .turned) (row .w) (search .first) k .lo;
-  from = rowStart row k + shiftOf (row .turned) (row .w) (search .first) k .from;
-  to = rowStart row k + (row .w - shiftOf (row .turned) (row .w) (search .first) k .lo);
+abbrev pub seenSpan : Row → Search → ℕ → Span
+seenSpan row search k = record {
+  lo = seenShift (row .turned) (row .w) (search .first) k .lo;
+  from = rowStart row k + seenShift (row .turned) (row .w) (search .first) k .from;
+  to = rowStart row k + (row .w - seenShift (row .turned) (row .w) (search .first) k .lo);
 }
 
 -- the number in column x, where a part's numbers stand in the columns from lo on and the others are blank

@@ -5,11 +5,11 @@ use mathlib.Core.List.{List}
 use lib.ListN.{getD}
 use lib.Ieee.{Float, nan, inf, lt}
 use Rattle.lists.specs.Lists.{listOf, walk}
+use Rattle.options.specs.Frame.{inner}
 use Rattle.maps.specs.declared.Cell.{Cell}
 use Rattle.maps.specs.declared.Cell.the-variants.{Mark, At}
 use Rattle.choices.specs.declared.semi_global.Least.{Least}
 use Rattle.choices.specs.declared.subpixel.Search.{Search}
-use Rattle.choices.specs.Frame.{inner}
 use Rattle.choices.specs.Subpixel.{placed}
 
 -- the sums of pixel p by index: `count` cells in a row for each pixel

@@ -10,8 +10,8 @@ use lib.Ieee.Scale.{finite}
 use Rattle.numbers.specs.Plain.{magnitudeOf}
 use Rattle.choices.specs.declared.subpixel.Search.{Search}
 
-abbrev pub half : Float
-half = ofBits binary32 0x3f00_0000
+abbrev pub oneHalf : Float
+oneHalf = ofBits binary32 0x3f00_0000
 
 abbrev pub one : Float
 one = ofBits binary32 0x3f80_0000
@@ -29,7 +29,7 @@ denom cm best cp = sub binary32 (add binary32 cm cp) (mul binary32 two best)
 
 -- (0.5 (cm - cp)) / denom
 unfoldable pub delta : Float → Float → Float → Float
-delta cm best cp = div binary32 (mul binary32 half (sub binary32 cm cp)) (denom cm best cp)
+delta cm best cp = div binary32 (mul binary32 oneHalf (sub binary32 cm cp)) (denom cm best cp)
 
 -- delta is added to d where both neighbours are finite, |denom| > 1e-6 and |delta| < 1
 unfoldable pub refined : Float → Float → Float → Float → Float

@@ -9,6 +9,7 @@ use lists::fill_first;
 use maps::Cell;
 use options::BlockMatchOptions;
 use options::RawCost;
+use options::is_within;
 ghost use mathlib.Core.Path.{_≡_};
 ghost use mathlib.Core.Bool.{_&&_, _||_, cond};
 ghost use mathlib.Core.List.{map};
@@ -16,14 +17,14 @@ ghost use Prim.Native.Nat.{_+_, _*_, _-_, _<_, _≤_, min};
 ghost use lib.ListN.{length, take};
 ghost use lib.IntN.{pos, natAbs, _+ℤ_};
 ghost use lib.Ieee.{lt};
-ghost use Rattle.lists.specs.Lists.{listOf, cleared};
+ghost use Rattle.lists.specs.Lists.{listOf};
 ghost use Rattle.options.specs.Costs.{stored, rawOf};
-ghost use Rattle.options.specs.Limits.{sideMost, countMost, firstMost, shiftMost};
+ghost use Rattle.options.specs.Limits.{countMost, firstMost, shiftMost};
 ghost use Rattle.maps.specs.Cells.{inBuffer};
 ghost use Rattle.choices.specs.Subpixel.{placed};
 ghost use Rattle.choices.specs.Block.{bestOf, blockChoice, blockMap};
-ghost use Rattle.choices.specs.Seen.{isTurned, seenAs, CellsInRange, RowIn, MapIn, RowSizes, cellIn, columnCosts, movedBy, shiftOf, spanOf, partAt};
-ghost use Rattle.choices.specs.Leading.{indexFloat, far, tooNear, ledBy, rivalledBy};
+ghost use Rattle.choices.specs.Seen.{isTurned, seenAs, CellsInRange, RowIn, MapIn, RowSizes, cellIn, columnCosts, movedBy, seenShift, seenSpan, partAt};
+ghost use Rattle.choices.specs.Leading.{indexFloat, tooNear, ledBy, rivalledBy};
 ghost use Rattle.choices.specs.RowChoice.{ledIndex, ledRow, rivalIn, rivalRow, columnCell, chosenRow, chosenAt};
 
 // The best raw cost of a pixel with its index, if there is one.
@@ -120,7 +121,7 @@ fn moved_by(w: usize, d: i32) -> Shift
 fn shift_of(w: usize, search: Search, turned: bool, k: usize) -> Shift
     requires { ⌜ natAbs (search .first) ≤ firstMost ⌝ }
     requires { ⌜ k < countMost ⌝ }
-    ensures { λ s. ⌜ s ≡ shiftOf turned w (search .first) k ⌝ }
+    ensures { λ s. ⌜ s ≡ seenShift turned w (search .first) k ⌝ }
 {
     if turned {
         moved_by(w, columns_left(search, k))
@@ -133,7 +134,7 @@ fn shift_of(w: usize, search: Search, turned: bool, k: usize) -> Shift
 fn span_of(row: Row, search: Search, k: usize) -> Span
     requires { ⌜ RowSizes row search ⌝ }
     requires { ⌜ k < search .count ⌝ }
-    ensures { λ s. ⌜ s ≡ spanOf row search k ⌝ }
+    ensures { λ s. ⌜ s ≡ seenSpan row search k ⌝ }
 {
     let base = k * (row.w * row.h) + row.y * row.w;
     let shift = shift_of(row.w, search, row.turned, k);
@@ -355,26 +356,22 @@ fn column_cell(
 ) -> Cell
     requires { ⌜ RowIn row search (now raw) ⌝ }
     requires { ⌜ CellsInRange (now raw) (search .count * (row .w * row .h)) ⌝ }
-    requires { ⌜ r ≤ row .w ⌝ }
     requires { ⌜ x < row .w ⌝ }
     requires { ⌜ at ≡ indexFloat (ledIndex row search (now raw) (search .count) x) ⌝ }
     requires { ⌜ rival ≡ rawOf (rivalIn row search (now raw) (search .count) x) ⌝ }
     ensures { λ c. ⌜ c ≡ columnCell row r search gates (now (raw .entry)) x ⌝ }
 {
-    if x < r {
-        return Cell::Mark;
+    if is_within(row.w, r, x) {
+        choose_column(raw, row, search, gates, x, at, rival)
+    } else {
+        Cell::Mark
     }
-    if row.w - r <= x {
-        return Cell::Mark;
-    }
-    choose_column(raw, row, search, gates, x, at, rival)
 }
 
 // The choices of a row: they take the place of the competitors.
 fn finish_row(work: &mut [f32], raw: &[f32], row: Row, r: usize, search: Search, gates: Gates)
     requires { ⌜ RowIn row search (now raw) ⌝ }
     requires { ⌜ CellsInRange (now raw) (search .count * (row .w * row .h)) ⌝ }
-    requires { ⌜ r ≤ row .w ⌝ }
     requires { ⌜ now work ≡ rivalRow row search (now raw) (search .count) ⌝ }
     ensures { λ _. ⌜ now (work .exit) ≡ chosenRow row r search gates (now (raw .entry)) ⌝ }
 {
@@ -391,7 +388,6 @@ fn finish_row(work: &mut [f32], raw: &[f32], row: Row, r: usize, search: Search,
 fn choose_row(work: &mut [f32], raw: &[f32], row: Row, r: usize, search: Search, gates: Gates)
     requires { ⌜ RowIn row search (now raw) ⌝ }
     requires { ⌜ CellsInRange (now raw) (search .count * (row .w * row .h)) ⌝ }
-    requires { ⌜ r ≤ row .w ⌝ }
     requires { ⌜ length (now work) ≡ row .w + row .w ⌝ }
     ensures { λ _. ⌜ now (work .exit) ≡ chosenRow row r search gates (now (raw .entry)) ⌝ }
 {

@@ -1,10 +1,10 @@
 // Semi-global choice: the least sum of path costs of each pixel. No gate applies.
-use super::is_inner;
 use super::subpixel::Search;
 use super::subpixel::disparity_at;
 use super::subpixel::has_sides;
 use super::subpixel::refine;
 use maps::Cell;
+use options::is_inner;
 ghost use mathlib.Core.Path.{_≡_};
 ghost use mathlib.Core.List.{map};
 ghost use Prim.Native.Nat.{_+_, _*_, _<_, _≤_};
@@ -75,13 +75,12 @@ fn choose_semi(sums: &[f32], p: usize, search: Search) -> Cell
 // Semi-global choice at pixel p of a w by h map: the mark in the frame of r pixels.
 fn semi_cell(sums: &[f32], w: usize, h: usize, r: usize, p: usize, search: Search) -> Cell
     requires { ⌜ p < w * h ⌝ }
-    requires { ⌜ (r ≤ w) × (r ≤ h) ⌝ }
     requires { ⌜ w * h * search .count ≤ length (now sums) ⌝ }
     requires { ⌜ natAbs (search .first) ≤ firstMost ⌝ }
     requires { ⌜ search .count ≤ countMost ⌝ }
     ensures { λ c. ⌜ c ≡ semiCell w h r search (now (sums .entry)) p ⌝ }
 {
-    if is_inner(w, h, r, p) {
+    if is_inner(w, h, r, p % w, p / w) {
         choose_semi(sums, p, search)
     } else {
         Cell::Mark
@@ -91,7 +90,6 @@ fn semi_cell(sums: &[f32], w: usize, h: usize, r: usize, p: usize, search: Searc
 // The map of the semi-global choices, one cell for each pixel, in `out`.
 pub fn select_sgm(out: &mut [f32], sums: &[f32], w: usize, h: usize, r: usize, search: Search)
     requires { ⌜ length (now out) ≡ w * h ⌝ }
-    requires { ⌜ (r ≤ w) × (r ≤ h) ⌝ }
     requires { ⌜ w * h * search .count ≤ length (now sums) ⌝ }
     requires { ⌜ natAbs (search .first) ≤ firstMost ⌝ }
     requires { ⌜ search .count ≤ countMost ⌝ }

@@ -1,43 +1,39 @@
 -- THE LAWS of the raw cost: it lies from -1 to 1, the two sides mirror each other, and where its cells lie in the volume. Assumes nothing.
-use Prim.Native.Nat.{ℕ, zero, suc, _+_, _*_, _-_, _/_, _%_, _^_, _≤_, _<_}
+use Prim.Native.Nat.{ℕ, _+_, _*_, _/_, _≤_, _<_}
 use mathlib.Core.Path.{_≡_, refl, sym, ap, ap₂, _∙_, subst}
-use mathlib.Core.Bool.{Bool, true, false, cond, _&&_, _||_}
+use mathlib.Core.Bool.{Bool, true, false, cond, _&&_, or-comm}
 use mathlib.Core.List.{List}
 use mathlib.Core.Logic.{⊎-elim}
-use native.Mathlib.Nat.{mul-comm, add-mul, mul-assoc, suc-mul, mul-le-mul-right, eq-zero-or-pos}
+use native.Mathlib.Nat.{mul-comm, suc-mul, mul-le-mul-right, eq-zero-or-pos}
 use native.Mathlib.Omega.{arith}
-use borrow.Author.Tests.{lt-ltb, le-ltb, le-leb, lt-leb, leb-true, ltb-true}
-use lib.Dec.{T, eqb, leb, ltb}
-use lib.IntN.{ℤ, pos, negsuc, natAbs, negℤ, _+ℤ_, _-ℤ_, +ℤ-negℤ-cancel}
-use lib.Ieee.{Float, nan, inf, fin, Format, binary64, up, down, round, unlike, mul, div, ofInt, le}
+use lib.Dec.{eqb}
+use lib.IntN.{ℤ, pos, natAbs, negℤ, _+ℤ_, +ℤ-negℤ-cancel}
+use lib.Ieee.{Float, nan, inf, fin, Format, binary64, up, down, unlike, mul}
 use lib.ListN.{getD}
 use Rattle.options.specs.Limits.{blockMost}
-use Rattle.lists.proofs.Tests.{lt-or-le, and-both}
+use Rattle.options.specs.Frame.{within}
+use Rattle.options.proofs.Frames.{within-says}
 use Rattle.lists.specs.Rows.{levelAt}
 use Rattle.numbers.specs.Root.{rootOf}
-use Rattle.numbers.specs.Narrow.{narrowed}
 use Rattle.numbers.proofs.CostBound.{cost-in-range}
 use Rattle.options.specs.declared.RawCost.{RawCost}
 use Rattle.options.specs.declared.RawCost.the-variants.{Blank, Corr}
 use Rattle.options.specs.declared.Side.{Side}
 use Rattle.options.specs.declared.Side.the-variants.{Left, Right}
 use Rattle.lists.specs.Sums.{sumTo}
-use Rattle.windows.specs.Table.{squareAt, crossAt}
-use Rattle.windows.specs.Window.{windowSum, Inside}
-use Rattle.windows.specs.Moments.{covOf, varOf, covarianceOf}
+use Rattle.windows.specs.Moments.{covOf}
 use Rattle.lists.proofs.Sums.{sumTo-same}
 use Rattle.windows.proofs.Cauchy.{cauchy}
 use Rattle.windows.proofs.Flat.{pixel, count, window-var, window-cov}
-use Rattle.lists.specs.Lists.{listOf}
-use Rattle.costs.specs.Raw.{windowVar, windowCov, oneLevel, correlation, pairCost, within, targetCost, inFrame, shiftedCost, referenceOf, targetOf, shiftOf, rawCost}
+use Rattle.costs.specs.Raw.{windowVar, windowCov, oneLevel, correlation, pairCost, targetCost, shiftedCost, rawCost}
 use Rattle.options.specs.Costs.{stored, Within, InRange}
 use Rattle.costs.specs.Rooms.{Picture}
-use Rattle.costs.specs.Volume.{rawVolume, cellOf}
+use Rattle.costs.specs.Volume.{rawVolume, volumeCell}
 use Rattle.lists.proofs.Lists.{listOf-at}
 use Rattle.lists.proofs.Rows.{in-column, in-row}
 use Rattle.costs.proofs.Readings.{var-most}
-use Rattle.costs.proofs.PairCosts.{pos-of-ne, blank-here, blank-there, not-blank}
-use Rattle.costs.proofs.Frames.{frame-left, frame-right, frame-top, frame-bottom, in-frame}
+use Rattle.costs.proofs.PairCosts.{blank-here, blank-there, not-blank}
+use Rattle.costs.proofs.Frames.{target-found, by-windows}
 
 -- ---- two windows, s columns apart
 module _ (w : ℕ) (a b : List ℕ) (s : ℤ) (x x′ y r : ℕ) (apart : pos x +ℤ s ≡ pos x′) (l : r ≤ x) (l′ : r ≤ x′) where
@@ -64,37 +60,11 @@ record Shown (w h r : ℕ) (a b : List ℕ) (s : ℤ) (x y : ℕ) (v : Float) : 
   pair : pairCost w r a b s x other y ≡ Corr v
 
 module _ (w h r : ℕ) (a b : List ℕ) (s : ℤ) (x y : ℕ) (v : Float) where
-  at-target : (z : ℤ) → pos x +ℤ s ≡ z → r ≤ x → targetCost w r a b s x y z ≡ Corr v → Shown w h r a b s x y v
-  unfolding targetCost
-  at-target (negsuc n) e l shows = absurd (not-equal v shows)
-  at-target (pos t) e l shows =
-      ⊎-elim
-      (λ (k : t < r). absurd (not-equal v (sym (rw (lt-leb r t k)) ∙ shows)))
-      (λ (k : r ≤ t).
-      ⊎-elim
-      (λ (m : t + r < w). record { other = t; apart = e; left = l; left′ = k; pair = sym (rw (le-leb r t k, lt-ltb (t + r) w m)) ∙ shows })
-      (λ (m : w ≤ t + r). absurd (not-equal v (sym (rw (le-leb r t k, le-ltb (t + r) w m)) ∙ shows)))
-      (lt-or-le (t + r) w))
-      (lt-or-le t r)
-
   shown : shiftedCost w h r a b s x y ≡ Corr v → Shown w h r a b s x y v
   shown shows =
-      ⊎-elim
-      (λ (k : x < r). absurd (not-equal v (frame-left w h r a b s x y k ∙ shows)))
-      (λ (k : r ≤ x).
-      ⊎-elim
-      (λ (m : x + r < w).
-      ⊎-elim
-      (λ (i : y < r). absurd (not-equal v (frame-top w h r a b s x y k m i ∙ shows)))
-      (λ (i : r ≤ y).
-      ⊎-elim
-      (λ (j : y + r < h). at-target (pos x +ℤ s) refl k (sym (in-frame w h r a b s x y (record { left = k; right = m; top = i; bottom = j })) ∙ shows))
-      (λ (j : h ≤ y + r). absurd (not-equal v (frame-bottom w h r a b s x y k m i j ∙ shows)))
-      (lt-or-le (y + r) h))
-      (lt-or-le y r))
-      (λ (m : w ≤ x + r). absurd (not-equal v (frame-right w h r a b s x y k m ∙ shows)))
-      (lt-or-le (x + r) w))
-      (lt-or-le x r)
+      by-windows w h r s x y
+      (λ i x′ f. record { other = x′; apart = f .column; left = i .left; left′ = f .left; pair = target-found w h r a b s x y i x′ f ∙ shows })
+      (λ blank. absurd (not-equal v (blank a b ∙ shows)))
 
   pair-bound : r ≤ blockMost / 2 → Picture w h a → Picture w h b → Shown w h r a b s x y v → Within v
   unfolding correlation
@@ -129,12 +99,6 @@ raw-cost-bound Left w h r first left right x y k few pl pr = shifted-bound w h r
 raw-cost-bound Right w h r first left right x y k few pl pr = shifted-bound w h r right left _ x y few pr pl
 
 -- ---- the mirror
-or-comm : (s t : Bool) → s || t ≡ t || s
-or-comm true true = refl
-or-comm true false = refl
-or-comm false true = refl
-or-comm false false = refl
-
 unlike-comm : (s t : Bool) → unlike s t ≡ unlike t s
 unlike-comm true true = refl
 unlike-comm true false = refl
@@ -168,9 +132,6 @@ pair-mirror w r a b s t x x′ y e e′ l l′ =
       product-comm binary64 (rootOf (windowVar w a x y r)) (rootOf (windowVar w b x′ y r)),
     )
 
-within-least : (w r x : ℕ) → within w r x ≡ true → r ≤ x
-within-least w r x e = leb-true r x (and-both (leb r x) (ltb (x + r) w) e .0)
-
 -- three tests in either order
 either-order : (f g m : Bool) (p q : RawCost) → (f ≡ true → g ≡ true → p ≡ q) → cond (f && m) (cond g p Blank) Blank ≡ cond (g && m) (cond f q Blank) Blank
 either-order true true true p q h = h refl refl
@@ -190,7 +151,7 @@ raw-cost-mirror w h r first left right x x′ y k e =
     let back : pos x′ +ℤ negℤ d ≡ pos x = ap (λ z. z +ℤ negℤ d) (sym e) ∙ +ℤ-negℤ-cancel (pos x) d in
     rw (e, back)
     (either-order (within w r x) (within w r x′) (within h r y) (pairCost w r right left d x x′ y) (pairCost w r left right (negℤ d) x′ x y)
-    (λ f g. pair-mirror w r right left d (negℤ d) x x′ y e back (within-least w r x f) (within-least w r x′ g)))
+    (λ f g. pair-mirror w r right left d (negℤ d) x x′ y e back (within-says w r x f .0) (within-says w r x′ g .0)))
 
 -- THEOREM: cell k·w·h + y·w + x of the volume has index k of pixel (x, y)
 pub volume-cell : (side : Side) (w h r : ℕ) (first : ℤ) (count : ℕ) (left right : List ℕ) (x y k : ℕ) (o : Float) → x < w → y < h → k < count
@@ -200,5 +161,5 @@ volume-cell side w h r first count left right x y k o lx ly lk =
     let in-plane : y * w + x < w * h = omega (arith, mul-le-mul-right w ly, suc-mul y w, mul-comm w h) in
     let in-volume : k * (w * h) + (y * w + x) < count * (w * h) = omega (arith, mul-le-mul-right (w * h) lk, suc-mul k (w * h)) in
     listOf-at (count * (w * h)) _ (k * (w * h) + (y * w + x)) o in-volume
-    ∙ ap₂ (λ j p. cellOf side w h r first left right j p) (in-row (w * h) (y * w + x) k in-plane) (in-column (w * h) (y * w + x) k in-plane)
+    ∙ ap₂ (λ j p. volumeCell side w h r first left right j p) (in-row (w * h) (y * w + x) k in-plane) (in-column (w * h) (y * w + x) k in-plane)
     ∙ ap₂ (λ c t. stored (rawCost side w h r first left right c t k)) (in-column w x y lx) (in-row w x y lx)

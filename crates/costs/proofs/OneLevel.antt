@@ -1,10 +1,9 @@
 -- A window shows one level exactly when its variance is 0. Assumes nothing.
-use Prim.Native.Nat.{ℕ, zero, suc, _+_, _*_, _-_, _≤_, _<_}
-use mathlib.Core.Path.{_≡_, refl, sym, ap, _∙_, subst}
-use mathlib.Core.Bool.{Bool, true, false, _&&_}
+use Prim.Native.Nat.{ℕ, _+_, _*_, _-_, _<_}
+use mathlib.Core.Path.{_≡_, refl, sym, ap, _∙_}
+use mathlib.Core.Bool.{Bool, true, false}
 use mathlib.Core.List.{List}
-use mathlib.Core.Logic.{⊎-elim}
-use native.Mathlib.Nat.{not-suc-le-zero, le-of-suc-le-suc, eq-or-lt-of-le, add-zero, zero-lt-suc}
+use native.Mathlib.Nat.{add-zero}
 use native.Mathlib.Omega.{arith}
 use borrow.Author.Tests.{eq-eqb, eqb-true}
 use lib.Dec.{eqb}
@@ -12,7 +11,6 @@ use Rattle.lists.specs.Rows.{levelAt}
 use Rattle.windows.specs.Moments.{varOf}
 use Rattle.windows.proofs.Laws.{var-zero-flat, flat-var-zero}
 use Rattle.windows.proofs.Flat.{pixel, count, window-var, shows-one, pixels-one}
-use Rattle.lists.specs.Lists.{allBelow}
 use Rattle.lists.proofs.Tests.{all-of, of-all}
 use Rattle.costs.specs.Raw.{windowVar, oneLevel}
 

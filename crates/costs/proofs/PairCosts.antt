@@ -19,9 +19,9 @@ use Rattle.windows.specs.Table.{crossAt}
 use Rattle.windows.specs.Window.{windowSum, Inside, cornerSum, Corners, cells, cornerAt}
 use Rattle.windows.specs.Moments.{covarianceOf}
 use Rattle.costs.specs.Raw.{pixels, windowVar, windowCov, oneLevel, correlation, pairCost}
-use Rattle.costs.specs.Quotient.{Counted, quotientCost}
+use Rattle.costs.specs.Quotient.{CountsExactly, quotientCost}
 use Rattle.costs.specs.Roots.{rootBits}
-use Rattle.costs.specs.Rooms.{TablesOf, Summed, RoomOf, Pair}
+use Rattle.costs.specs.Rooms.{TablesOf, WindowsSummed, RoomOf, Pair}
 use Rattle.costs.proofs.RootBits.{bits-of-zero, bits-back, bits-number, bits-zero}
 use Rattle.windows.proofs.Corners.{corners, corner-sum}
 use Rattle.costs.proofs.Readings.{corner-in, cells-most, var-most, counted, tables-long, tables-of, sum-here, sum-there, products, root-here, root-there}
@@ -69,11 +69,11 @@ module _ {room : List ℕ} {w h r x x′ y : ℕ} (p : Pair room w h r x x′ y)
     pub sum-both : {s : ℤ} {a b : List ℕ} → RoomOf room w h r s a b → both ≡ windowSum (crossAt w a b s) x y r
     sum-both {s} {a} {b} o = e ∙ corner-sum room (4 * cells w h) w h (crossAt w a b s) x y r (p .first) (products o _)
 
-    pub summed : Summed room w h r x x′ y both
+    pub summed : WindowsSummed room w h r x x′ y both
     summed = record { s = p .s; a = p .a; b = p .b; held = tables-of (p .held); first = p .first; second = p .second; apart = p .apart; sum = sum-both (p .held) }
 
 -- ---- the cost, from that sum
-module _ {room : List ℕ} {w h r x x′ y both : ℕ} (p : Summed room w h r x x′ y both) where
+module _ {room : List ℕ} {w h r x x′ y both : ℕ} (p : WindowsSummed room w h r x x′ y both) where
   pub spots : Spots room w h r x x′ y
   spots = spots-in (p .held) (p .first) (p .second)
 
@@ -108,7 +108,7 @@ module _ {room : List ℕ} {w h r x x′ y both : ℕ} (p : Summed room w h r x 
   rootB = getD room (3 * cells w h + cornerAt w x′ y r) 0
 
   -- what the covariance needs of the three sums
-  pub sums-counted : Counted (pixels r) sumA sumB both
+  pub sums-counted : CountsExactly (pixels r) sumA sumB both
   sums-counted =
       rw (sum-here (p .held) x y (p .first), sum-there (p .held) x′ y (p .second), p .sum)
       (counted w h (p .a) (p .b) x x′ y r (p .held .frame .r-most) (p .held .first) (p .held .second) (p .s) (p .apart) (p .first .left) (p .second .left))

@@ -1,19 +1,18 @@
 -- A plane from its rows. Assumes nothing.
-use Prim.Native.Nat.{ℕ, zero, suc, _+_, _*_, _-_, _/_, _%_, _≤_, _<_}
-use mathlib.Core.Path.{_≡_, refl, sym, ap, ap₂, _∙_}
+use Prim.Native.Nat.{ℕ, _+_, _*_, _-_, _≤_, _<_}
+use mathlib.Core.Path.{_≡_, sym, ap, ap₂, _∙_}
 use mathlib.Core.List.{List, _++_}
 use native.Mathlib.Nat.{suc-mul, mul-comm, mul-le-mul-right, mul-le-mul, add-sub-cancel-left}
 use native.Mathlib.Numerals.{add-one}
 use native.Mathlib.Omega.{arith}
 use borrow.Rule.Slice.PartMut.{putMid, midOf, mid-len}
 use lib.IntN.{ℤ}
-use lib.Ieee.{Float}
 use lib.ListN.{length, drop}
 use Rattle.options.specs.Limits.{sideMost}
 use Rattle.lists.specs.Lists.{listOf}
 use Rattle.options.specs.Costs.{stored}
 use Rattle.costs.specs.Raw.{shiftedCost}
-use Rattle.costs.specs.Volume.{rowCells, planeCell, planeCells}
+use Rattle.costs.specs.Volume.{rowCells, planeCell}
 use Rattle.lists.proofs.Lists.{listOf-same, part-next}
 use Rattle.lists.proofs.Rows.{in-column, in-row}
 

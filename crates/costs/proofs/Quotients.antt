@@ -14,7 +14,7 @@ use Rattle.numbers.proofs.CostBound.{cost-moderate, none-moderate}
 use Rattle.windows.specs.Moments.{covarianceOf}
 use Rattle.costs.specs.Raw.{pixels, windowVar, windowCov}
 use Rattle.costs.specs.Quotient.{one, divisorOf, Divisible}
-use Rattle.costs.specs.Rooms.{Summed}
+use Rattle.costs.specs.Rooms.{WindowsSummed}
 use Rattle.costs.proofs.RootBits.{bits-back}
 use Rattle.costs.proofs.Readings.{var-most, root-here, root-there}
 use Rattle.costs.proofs.PairCosts.{pos-of-ne, rootA, rootB, sumA, sumB, flat-here, flat-there, spread-here, spread-there, no-nan-here, no-nan-there, cov-is}
@@ -36,7 +36,7 @@ none-over-one : Moderate (div binary64 (ofInt binary64 (pos 0)) one)
 unfolding ofBits
 none-over-one = none-moderate
 
-module _ {room : List ℕ} {w h r x x′ y both : ℕ} (p : Summed room w h r x x′ y both) where
+module _ {room : List ℕ} {w h r x x′ y both : ℕ} (p : WindowsSummed room w h r x x′ y both) where
   abbrev va : ℕ
   va = windowVar w (p .a) x y r
 

@@ -17,7 +17,7 @@ use Rattle.windows.proofs.Windows.{cell-in}
 use Rattle.windows.proofs.Flat.{window-flat, window-cross, windows-fit, count-most}
 use Rattle.costs.specs.Raw.{pixels, windowVar}
 use Rattle.costs.specs.Roots.{rootBits, windowAt, windowCell, windowTable, sumIn, rootIn, pictureTables}
-use Rattle.costs.specs.Quotient.{Counted}
+use Rattle.costs.specs.Quotient.{CountsExactly}
 use Rattle.costs.specs.Rooms.{Picture, fiveParts, TablesOf, RoomOf}
 use Rattle.lists.proofs.Lists.{listOf-length, listOf-at}
 use Rattle.lists.proofs.Rows.{in-column, in-row}
@@ -54,7 +54,7 @@ window-at-corner w h r f x y i =
 -- two windows of pictures: what a variance or a covariance needs is below 2^53
 module _ (w h : ℕ) (a b : List ℕ) (x x′ y r : ℕ) (few : r ≤ blockMost / 2) (pa : Picture w h a) (pb : Picture w h b) where
   pub counted : (s : ℤ) → pos x +ℤ s ≡ pos x′ → r ≤ x → r ≤ x′
-      → Counted (pixels r) (windowSum (levelAt w a) x y r) (windowSum (levelAt w b) x′ y r) (windowSum (crossAt w a b s) x y r)
+      → CountsExactly (pixels r) (windowSum (levelAt w a) x y r) (windowSum (levelAt w b) x′ y r) (windowSum (crossAt w a b s) x y r)
   counted s e l l′ =
       let z = windows-fit w a b x x′ y r few (pa .small) (pb .small) in
       record {

@@ -1,6 +1,6 @@
 -- THE SCALING LAW: two windows whose levels become 2^i·v + s and 2^j·v + t have the raw cost that they had. Assumes nothing.
-use Prim.Native.Nat.{ℕ, _+_, _*_, _/_, _^_, _≤_, _<_}
-use mathlib.Core.Path.{_≡_, refl, sym, ap, _∙_}
+use Prim.Native.Nat.{ℕ, _*_, _/_, _^_, _≤_, _<_}
+use mathlib.Core.Path.{_≡_, sym, ap, _∙_}
 use mathlib.Core.List.{List}
 use mathlib.Core.Logic.{⊎-elim}
 use native.Mathlib.Nat.{le-trans, le-of-eq, mul-zero, mul-pos, eq-zero-or-pos}
@@ -10,7 +10,7 @@ use Rattle.lists.specs.Rows.{levelAt}
 use Rattle.numbers.proofs.Squares.{four, four-pos}
 use Rattle.numbers.proofs.CostScale.{cost-scales}
 use Rattle.options.specs.Limits.{blockMost}
-use Rattle.options.specs.declared.RawCost.the-variants.{Blank, Corr}
+use Rattle.options.specs.declared.RawCost.the-variants.{Corr}
 use Rattle.windows.specs.Moments.{varOf, covOf}
 use Rattle.windows.proofs.Cauchy.{cauchy}
 use Rattle.windows.proofs.Flat.{pixel, count, window-var}

@@ -16,16 +16,15 @@ use lib.Seq.{drop-at}
 use Rattle.lists.specs.Lists.{listOf}
 use Rattle.lists.proofs.Lists.{listOf-length, listOf-same, listOf-split, part-next}
 use Rattle.lists.proofs.Tests.{lt-or-le}
-use Rattle.options.specs.declared.RawCost.{RawCost}
-use Rattle.options.specs.declared.RawCost.the-variants.{Blank, Corr}
 use Rattle.options.specs.Costs.{stored}
-use Rattle.windows.specs.Window.{Inside}
+use Rattle.options.specs.Frame.{within}
+use Rattle.options.proofs.Frames.{within-not}
 use Rattle.costs.specs.Raw.{pairCost, shiftedCost}
-use Rattle.costs.specs.Rooms.{Ready, Pair, Lined}
+use Rattle.costs.specs.Rooms.{RoomReady, Pair, WindowsInLine}
 use Rattle.costs.specs.declared.plane.Span.{Span}
-use Rattle.costs.specs.Span.{spanOf}
+use Rattle.costs.specs.Span.{windowSpan}
 use Rattle.costs.specs.Volume.{rowCells}
-use Rattle.costs.proofs.Frames.{Found, blank-unless, target-found}
+use Rattle.costs.proofs.Frames.{blank-unless, target-found}
 
 -- how far two columns that lie s apart are from each other
 abbrev pub Apart : ℕ → ℤ → ℕ → Type 0
@@ -53,7 +52,7 @@ further x x′ i s e = apart-is (x + i) (x′ + i) s (go s (apart-says x x′ s 
     go (negsuc d) e = omega arith
 
 -- one of the columns of a line
-pub lined-pair : {room : List ℕ} {w h r x x′ y n : ℕ} → Lined room w h r x x′ y n → (i : ℕ) → i < n → Pair room w h r (x + i) (x′ + i) y
+pub lined-pair : {room : List ℕ} {w h r x x′ y n : ℕ} → WindowsInLine room w h r x x′ y n → (i : ℕ) → i < n → Pair room w h r (x + i) (x′ + i) y
 lined-pair p i l = record {
   s = p .s;
   a = p .a;
@@ -67,19 +66,19 @@ lined-pair p i l = record {
 -- ---- the span
 
 -- as it is worked out, by the shift's sign
-pub span-left : (w r : ℕ) (s : ℤ) → ltZ s (pos 0) ≡ true → (d n : ℕ) → d ≡ natAbs s → n ≡ w - (2 * r + d) → record { first = r + d; other = r; count = n } ≡ spanOf w r s
-unfolding spanOf
+pub span-left : (w r : ℕ) (s : ℤ) → ltZ s (pos 0) ≡ true → (d n : ℕ) → d ≡ natAbs s → n ≡ w - (2 * r + d) → record { first = r + d; other = r; count = n } ≡ windowSpan w r s
+unfolding windowSpan
 span-left w r (pos d) e k n ek en = absurd (omega (arith, ltb-true d 0 e))
 span-left w r (negsuc d) e k n ek en = rw (en, ek)
 
-pub span-right : (w r : ℕ) (s : ℤ) → ltZ s (pos 0) ≡ false → (d n : ℕ) → d ≡ natAbs s → n ≡ w - (2 * r + d) → record { first = r; other = r + d; count = n } ≡ spanOf w r s
-unfolding spanOf
+pub span-right : (w r : ℕ) (s : ℤ) → ltZ s (pos 0) ≡ false → (d n : ℕ) → d ≡ natAbs s → n ≡ w - (2 * r + d) → record { first = r; other = r + d; count = n } ≡ windowSpan w r s
+unfolding windowSpan
 span-right w r (pos d) e k n ek en = rw (en, ek)
 span-right w r (negsuc d) e k n ek en = absurd (true≢false e)
 
 -- where the span begins its target's columns do
-pub span-apart : (w r : ℕ) (s : ℤ) → pos (spanOf w r s .first) +ℤ s ≡ pos (spanOf w r s .other)
-unfolding spanOf
+pub span-apart : (w r : ℕ) (s : ℤ) → pos (windowSpan w r s .first) +ℤ s ≡ pos (windowSpan w r s .other)
+unfolding windowSpan
 span-apart w r (pos d) = refl
 span-apart w r (negsuc d) = apart-is (r + suc d) r (negsuc d) refl
 
@@ -90,14 +89,14 @@ pub record Spanned (w r first other count : ℕ) : Type 0 where
   pub right : 0 < count → first + count + r ≤ w
   pub right′ : 0 < count → other + count + r ≤ w
 
-pub spanned : (w r : ℕ) (s : ℤ) → Spanned w r (spanOf w r s .first) (spanOf w r s .other) (spanOf w r s .count)
-unfolding spanOf
+pub spanned : (w r : ℕ) (s : ℤ) → Spanned w r (windowSpan w r s .first) (windowSpan w r s .other) (windowSpan w r s .count)
+unfolding windowSpan
 spanned w r (pos d) = record { left = omega arith; left′ = omega arith; right = λ p. omega arith; right′ = λ p. omega arith }
 spanned w r (negsuc d) = record { left = omega arith; left′ = omega arith; right = λ p. omega arith; right′ = λ p. omega arith }
 
 -- a column that has two windows lies in it
-on-span : (w r x x′ : ℕ) (s : ℤ) → Apart x s x′ → r ≤ x → x + r < w → r ≤ x′ → x′ + r < w → (spanOf w r s .first ≤ x) × (x < spanOf w r s .first + spanOf w r s .count)
-unfolding spanOf
+on-span : (w r x x′ : ℕ) (s : ℤ) → Apart x s x′ → r ≤ x → x + r < w → r ≤ x′ → x′ + r < w → (windowSpan w r s .first ≤ x) × (x < windowSpan w r s .first + windowSpan w r s .count)
+unfolding windowSpan
 on-span w r x x′ (pos d) e l m l′ m′ = (omega arith, omega arith)
 on-span w r x x′ (negsuc d) e l m l′ m′ = (omega arith, omega arith)
 
@@ -118,13 +117,13 @@ module _ (w h r : ℕ) (a b : List ℕ) (s : ℤ) (y : ℕ) where
   cell x = stored (shiftedCost w h r a b s x y)
 
   abbrev first : ℕ
-  first = spanOf w r s .first
+  first = windowSpan w r s .first
 
   abbrev other : ℕ
-  other = spanOf w r s .other
+  other = windowSpan w r s .other
 
   abbrev count : ℕ
-  count = spanOf w r s .count
+  count = windowSpan w r s .count
 
   outside-span : (x : ℕ) → ((first ≤ x) × (x < first + count) → ⊥) → cell x ≡ inf true
   outside-span x off =
@@ -139,9 +138,9 @@ module _ (w h r : ℕ) (a b : List ℕ) (s : ℤ) (y : ℕ) where
   blank-row off = listOf-same w _ _ (λ x _. blank-there x (off x))
 
   -- a row of the frame
-  pub frame-row : (r ≤ y → h ≤ y + r) → listOf w (λ _. inf true) ≡ rowCells w h r a b s y
+  pub frame-row : within h r y ≡ false → listOf w (λ _. inf true) ≡ rowCells w h r a b s y
   unfolding rowCells
-  frame-row out = listOf-same w _ _ (λ x _. ap stored (blank-unless w h r a b s x y (λ i x′ f. omega (arith, i .top, i .bottom, out (i .top)))))
+  frame-row out = listOf-same w _ _ (λ x _. ap stored (blank-unless w h r a b s x y (λ i x′ f. omega (arith, i .bottom, within-not h r y out (i .top)))))
 
   module _ (top : r ≤ y) (bottom : y + r < h) (some : 0 < count) where
     in-span : (i : ℕ) → i < count → stored (pairCost w r a b s (first + i) (other + i) y) ≡ cell (first + i)
@@ -156,18 +155,18 @@ module _ (w h r : ℕ) (a b : List ℕ) (s : ℤ) (y : ℕ) where
     unfolding rowCells
     span-row part made =
         let z = spanned w r s in
-        let within : first + count ≤ w = omega (arith, z .right some) in
+        let fits : first + count ≤ w = omega (arith, z .right some) in
         part-next first (first + count) cell (listOf w (λ _. inf true)) (listOf w (λ _. inf true)) part (omega arith)
         (sym (mixed first w (λ _. inf true) (λ _. inf true) (omega arith) (λ i _ _. refl)) ∙ ap (λ k. k ++ drop first (listOf w (λ _. inf true))) (listOf-same first _ _ (λ x l. blank-there x (λ o. omega (arith, o .0)))))
         (made ∙ listOf-same (first + count - first) _ _ (λ i l. in-span i (omega arith)))
-        ∙ mixed (first + count) w cell (λ _. inf true) within (λ x l _. blank-there x (λ o. omega (arith, o .1)))
+        ∙ mixed (first + count) w cell (λ _. inf true) fits (λ x l _. blank-there x (λ o. omega (arith, o .1)))
 
 -- ---- the same of a span that was worked out
-pub span-small : (w r : ℕ) (s : ℤ) (sp : Span) → sp ≡ spanOf w r s → sp .first + sp .count ≤ r + natAbs s + w
-unfolding spanOf
+pub span-small : (w r : ℕ) (s : ℤ) (sp : Span) → sp ≡ windowSpan w r s → sp .first + sp .count ≤ r + natAbs s + w
+unfolding windowSpan
 span-small w r s sp e = subst (λ (k : Span). k .first + k .count ≤ r + natAbs s + w) (sym e) (go s)
   where
-    go : (s : ℤ) → spanOf w r s .first + spanOf w r s .count ≤ r + natAbs s + w
+    go : (s : ℤ) → windowSpan w r s .first + windowSpan w r s .count ≤ r + natAbs s + w
     go (pos d) = omega arith
     go (negsuc d) = omega arith
 
@@ -179,17 +178,17 @@ module _ (w h r : ℕ) (s : ℤ) (y : ℕ) (top : r ≤ y) (bottom : y + r < h) 
   abbrev Within : Span → Type 0
   Within sp = sp .first < sp .first + sp .count → sp .first + sp .count + r ≤ w
 
-  pub span-within : (sp : Span) → sp ≡ spanOf w r s → Within sp
+  pub span-within : (sp : Span) → sp ≡ windowSpan w r s → Within sp
   span-within sp e = subst Within (sym e) (λ some. spanned w r s .right (omega arith))
 
   part-size : (sp : Span) → Within sp → sp .first < sp .first + sp .count → (row : List Float) → length row ≡ w → length (inRow sp row) ≡ sp .count
   part-size sp z some row long = mid-len (sp .first) (sp .first + sp .count) row (omega (arith, z some)) ∙ add-sub-cancel-left (sp .first) (sp .count)
 
-  module _ {room : List ℕ} (o : Ready room w h r s) where
+  module _ {room : List ℕ} (o : RoomReady room w h r s) where
     abbrev Line : Span → Type 0
-    Line sp = sp .first < sp .first + sp .count → Lined room w h r (sp .first) (sp .other) y (sp .count)
+    Line sp = sp .first < sp .first + sp .count → WindowsInLine room w h r (sp .first) (sp .other) y (sp .count)
 
-    line : Line (spanOf w r s)
+    line : Line (windowSpan w r s)
     line some =
         let z = spanned w r s in
         record {
@@ -206,8 +205,8 @@ module _ (w h r : ℕ) (s : ℤ) (y : ℕ) (top : r ≤ y) (bottom : y + r < h) 
           bottom = bottom;
         }
 
-    pub span-lined : (sp : Span) → sp ≡ spanOf w r s → sp .first < sp .first + sp .count → (row : List Float) → length row ≡ w
-        → Lined room w h r (sp .first) (sp .other) y (length (inRow sp row))
+    pub span-lined : (sp : Span) → sp ≡ windowSpan w r s → sp .first < sp .first + sp .count → (row : List Float) → length row ≡ w
+        → WindowsInLine room w h r (sp .first) (sp .other) y (length (inRow sp row))
     span-lined sp e some row long = rw (part-size sp (span-within sp e) some row long) (subst Line (sym e) line some)
 
   module _ (a b : List ℕ) where
@@ -215,10 +214,10 @@ module _ (w h r : ℕ) (s : ℤ) (y : ℕ) (top : r ≤ y) (bottom : y + r < h) 
     Made sp = sp .first < sp .first + sp .count → (part : List Float) → part ≡ listOf (sp .count) (λ i. stored (pairCost w r a b s (sp .first + i) (sp .other + i) y))
         → putMid (sp .first) (sp .first + sp .count - sp .first) (listOf w (λ _. inf true)) part ≡ rowCells w h r a b s y
 
-    made : Made (spanOf w r s)
-    made some part e = span-row w h r a b s y top bottom (omega arith) part (e ∙ ap (λ n. listOf n (λ i. stored (pairCost w r a b s (spanOf w r s .first + i) (spanOf w r s .other + i) y))) (sym (add-sub-cancel-left (spanOf w r s .first) (spanOf w r s .count))))
+    made : Made (windowSpan w r s)
+    made some part e = span-row w h r a b s y top bottom (omega arith) part (e ∙ ap (λ n. listOf n (λ i. stored (pairCost w r a b s (windowSpan w r s .first + i) (windowSpan w r s .other + i) y))) (sym (add-sub-cancel-left (windowSpan w r s .first) (windowSpan w r s .count))))
 
-    pub span-made : (sp : Span) → sp ≡ spanOf w r s → sp .first < sp .first + sp .count → (row part : List Float) → row ≡ listOf w (λ _. inf true)
+    pub span-made : (sp : Span) → sp ≡ windowSpan w r s → sp .first < sp .first + sp .count → (row part : List Float) → row ≡ listOf w (λ _. inf true)
         → part ≡ listOf (length (inRow sp row)) (λ i. stored (pairCost w r a b s (sp .first + i) (sp .other + i) y))
         → putMid (sp .first) (sp .first + sp .count - sp .first) row part ≡ rowCells w h r a b s y
     span-made sp e some row part blank is =
@@ -226,5 +225,5 @@ module _ (w h r : ℕ) (s : ℤ) (y : ℕ) (top : r ≤ y) (bottom : y + r < h) 
         ∙ subst Made (sym e) made some part (is ∙ ap (λ n. listOf n (λ i. stored (pairCost w r a b s (sp .first + i) (sp .other + i) y))) (part-size sp (span-within sp e) some row (ap length blank ∙ listOf-length w _)))
 
     -- a span of no column
-    pub span-none : (sp : Span) → sp ≡ spanOf w r s → sp .first + sp .count ≤ sp .first → listOf w (λ _. inf true) ≡ rowCells w h r a b s y
+    pub span-none : (sp : Span) → sp ≡ windowSpan w r s → sp .first + sp .count ≤ sp .first → listOf w (λ _. inf true) ≡ rowCells w h r a b s y
     span-none sp e none = blank-row w h r a b s y (λ x o. omega (arith, subst (λ (k : Span). k .first + k .count ≤ k .first) e none, o))

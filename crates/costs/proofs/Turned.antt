@@ -10,17 +10,15 @@ use borrow.Author.Tests.{lt-ltb, le-ltb}
 use lib.IntN.{ℤ, pos, negsuc, negℤ, _+ℤ_, negℤ-negℤ, +ℤ-negℤ-cancel, pos-ne-negsuc}
 use lib.Ieee.{Float, inf}
 use lib.ListN.{getD}
-use Rattle.lists.specs.Lists.{listOf}
-use Rattle.lists.specs.Turned.{inRow, columnLeft, turnedCell, turned}
+use Rattle.lists.specs.Turned.{inRow, turnedCell, turned}
 use Rattle.lists.proofs.Lists.{listOf-same}
 use Rattle.lists.proofs.Rows.{row-below, mul-pos-left}
 use Rattle.lists.proofs.Tests.{lt-or-le}
 use Rattle.options.specs.declared.Side.the-variants.{Left, Right}
-use Rattle.options.specs.declared.RawCost.the-variants.{Blank}
 use Rattle.options.specs.Costs.{stored}
 use Rattle.costs.specs.Raw.{rawCost}
 use Rattle.costs.specs.Volume.{rawVolume}
-use Rattle.costs.proofs.Frames.{Found, blank-unless}
+use Rattle.costs.proofs.Frames.{blank-unless}
 use Rattle.costs.proofs.Laws.{raw-cost-mirror, volume-cell}
 
 -- what lies d to the left is d away

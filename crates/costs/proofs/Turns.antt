@@ -6,7 +6,7 @@ use native.Mathlib.Nat.{le-of-suc-le-suc, zero-add, suc-add, div-add-mod', div-l
 use native.Mathlib.Omega.{arith}
 use borrow.Author.Tests.{lt-ltb, le-ltb}
 use borrow.Rule.Slice.PartMut.{putMid}
-use lib.ListN.{length, getD, set, drop, length-set, length-append, length-drop, drop-of-length-le, List·getD-append}
+use lib.ListN.{length, set, drop, length-set, length-append, length-drop, drop-of-length-le, List·getD-append}
 use lib.Seq.{getD-append-add}
 use Rattle.options.specs.Limits.{blockMost}
 use Rattle.lists.specs.Rows.{levelAt}
@@ -20,7 +20,7 @@ use Rattle.windows.proofs.Flat.{pixel, count, window-flat}
 use Rattle.lists.specs.Lists.{listOf}
 use Rattle.costs.specs.Raw.{pixels, windowVar}
 use Rattle.costs.specs.Roots.{rootBits, windowAt, windowCell, windowTable, sumIn, rootIn, pictureTables}
-use Rattle.costs.specs.Rooms.{Frame, Picture, Turning, Turned}
+use Rattle.costs.specs.Rooms.{Picture, TablesFrom}
 use Rattle.windows.proofs.Corners.{corners, corner-sum}
 use Rattle.costs.proofs.Readings.{squares-fit}
 
@@ -61,7 +61,7 @@ module _ (pair : List ℕ) (w h r i : ℕ) (lc : i % (w + 1) + 2 * r < w) (lr : 
       ap₂ (λ a b. a * (w + 1) + b) (add-sub-cancel (i / (w + 1)) r) (add-sub-cancel (i % (w + 1)) r)
       ∙ div-add-mod' i (w + 1)
 
-  module _ (pic : List ℕ) (t : Turning pair w h i pic) where
+  module _ (pic : List ℕ) (t : TablesFrom pair w h i pic) where
     levels-from : TableFrom pair 0 (cornerAt w x y r) w h (levelAt w pic)
     levels-from = subst (λ (k : ℕ). TableFrom pair 0 k w h (levelAt w pic)) (sym corner) (t .levels)
 
@@ -161,7 +161,7 @@ module _ (w h r : ℕ) (pic : List ℕ) where
     pub turn-length : length pair ≡ 2 * cells w h
     turn-length = omega (arith, ap length (t .filled) ∙ length-append sums roots, sums-long, roots-long)
 
-    pub turning : Picture w h pic → Turning pair w h i pic
+    pub turning : Picture w h pic → TablesFrom pair w h i pic
     turning p = record {
       picture = p;
       levels = record {

@@ -1,5 +1,5 @@
 -- The volume from its planes, and the room meanwhile. Assumes nothing.
-use Prim.Native.Nat.{ℕ, zero, suc, _+_, _*_, _-_, _/_, _%_, _≤_, _<_}
+use Prim.Native.Nat.{ℕ, _+_, _*_, _-_, _≤_, _<_}
 use mathlib.Core.Path.{_≡_, refl, sym, ap, ap₂, _∙_}
 use mathlib.Core.List.{List, [], _++_, append-assoc}
 use native.Mathlib.Nat.{zero-mul, le-antisymm, sub-zero}
@@ -9,7 +9,6 @@ use lib.IntN.{ℤ}
 use lib.Ieee.{Float}
 use lib.ListN.{length, take, drop, replicate, length-append, length-drop}
 use lib.Seq.{take-at, drop-append-add, drop-drop}
-use Rattle.lists.specs.Rows.{levelAt}
 use Rattle.options.specs.declared.Side.{Side}
 use Rattle.windows.specs.Table.{tableOf, crossAt}
 use Rattle.windows.proofs.Tables.{length-table}
@@ -18,7 +17,7 @@ use Rattle.lists.specs.Lists.{listOf, cleared}
 use Rattle.costs.specs.Raw.{shiftOf}
 use Rattle.costs.specs.Roots.{windowTable, sumIn, rootIn, pictureTables}
 use Rattle.windows.specs.Window.{cells}
-use Rattle.costs.specs.Rooms.{Frame, Picture, fiveParts, RoomOf}
+use Rattle.costs.specs.Rooms.{WindowFits, Picture, fiveParts, RoomOf}
 use Rattle.costs.specs.Volume.{planeCell, planeCells, planesCell, planesOf}
 use Rattle.lists.proofs.Rows.{in-column, in-row}
 use Rattle.costs.proofs.Readings.{length-windows}
@@ -73,7 +72,7 @@ module _ {side : Side} {w h r : ℕ} {first : ℤ} {count : ℕ} {a b : List ℕ
     part-size = ap length made ∙ length-table w h _
 
     -- with the products filled the room has its five parts
-    pub five-parts : Frame w h r → Picture w h a → Picture w h b → RoomOf (filledRoom part) w h r s a b
+    pub five-parts : WindowFits w h r → Picture w h a → Picture w h b → RoomOf (filledRoom part) w h r s a b
     unfolding fiveParts
     five-parts f pa pb = record {
       rest = postOf (4 * cells w h) (5 * cells w h - 4 * cells w h) room;

@@ -1,5 +1,5 @@
 -- The outcome of a raw volume. Definitions only.
-use Prim.Native.Nat.{ℕ, zero, suc, _/_}
+use Prim.Native.Nat.{ℕ, _/_}
 use mathlib.Core.Path.{_≡_}
 use mathlib.Core.Bool.{false}
 use mathlib.Core.List.{List}
@@ -7,14 +7,16 @@ use lib.IntN.{pos, natAbs}
 use lib.ListN.{length}
 use lib.Ieee.{Float, fin}
 use Rattle.options.specs.declared.BlockMatchOptions.{BlockMatchOptions}
+use Rattle.options.specs.declared.Mode.the-variants.{Block}
 use Rattle.options.specs.declared.Side.{Side}
-use Rattle.refusals.specs.declared.Call.{Call}
-use Rattle.refusals.specs.declared.Output.the-variants.{Volume}
-use Rattle.refusals.specs.Refusals.{refusal, wholeCells}
+use Rattle.calls.specs.declared.Call.{Call}
+use Rattle.calls.specs.declared.Output.the-variants.{Volume}
+use Rattle.calls.specs.Refusals.{refusal, wholeCells}
+use Rattle.refusals.specs.Outcome.{after}
 use Rattle.lists.specs.Lists.{cleared}
 use Rattle.costs.specs.Volume.{rawVolume}
 
--- what is asked for and lent: no mode, so no penalty is read, and no float room
+-- what is asked for and lent: no mode is used, and the block's stands there; so no penalty is read, and there is no float room
 abbrev pub rawCall : List ℕ → ℕ → ℕ → List ℕ → ℕ → ℕ → BlockMatchOptions → ℕ → ℕ → Call
 rawCall left w h right w′ h′ options outLength roomLength = record {
   output = Volume;
@@ -27,7 +29,7 @@ rawCall left w h right w′ h′ options outLength roomLength = record {
   first = options .«min_disparity»;
   count = options .«num_disparities»;
   block = options .«block_size»;
-  «semi_global» = false;
+  mode = Block;
   p1 = fin false 0 (pos 0);
   p2 = fin false 0 (pos 0);
   «out_len» = outLength;
@@ -39,18 +41,8 @@ rawCall left w h right w′ h′ options outLength roomLength = record {
 abbrev pub volumeFor : Call → Side → List ℕ → List ℕ → List Float
 volumeFor q side left right = rawVolume side (q .«left_w») (q .«left_h») (q .block / 2) (q .first) (natAbs (q .count)) left right
 
--- THE OUTPUT afterwards: the raw volume, and after a refusal as it was
-unfoldable pub outAfter : ℕ → Call → Side → List ℕ → List ℕ → List Float → List Float
-outAfter zero q side left right out = volumeFor q side left right
-outAfter (suc n) q side left right out = out
-
--- THE ROOM afterwards: zero in the cells that were needed, and after a refusal as it was
-unfoldable pub roomAfter : ℕ → Call → List ℕ → List ℕ
-roomAfter zero q room = cleared 0 (wholeCells q) room
-roomAfter (suc n) q room = room
-
--- THE OUTCOME of a raw volume: the answer n, the output and the room afterwards
-pub record RawDone (n : ℕ) (q : Call) (side : Side) (left right : List ℕ) (out out′ : List Float) (room room′ : List ℕ) : Type 0 where
+-- THE OUTCOME of a raw volume: the answer n; the output holds the volume, and the cells of the room that were needed hold zero; after a refusal both are as they were
+pub record RawOutcome (n : ℕ) (q : Call) (side : Side) (left right : List ℕ) (out out′ : List Float) (room room′ : List ℕ) : Type 0 where
   pub answer : n ≡ refusal q
-  pub output : out′ ≡ outAfter n q side left right out
-  pub rooms : room′ ≡ roomAfter n q room
+  pub output : out′ ≡ after n (volumeFor q side left right) out
+  pub rooms : room′ ≡ after n (cleared 0 (wholeCells q) room) room

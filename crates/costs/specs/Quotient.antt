@@ -9,7 +9,7 @@ use Rattle.options.specs.declared.RawCost.{RawCost}
 use Rattle.options.specs.declared.RawCost.the-variants.{Blank, Corr}
 
 -- whole numbers that f64 counts, and the two terms of their covariance
-pub record Counted (n sa sb sab : ℕ) : Type 0 where
+pub record CountsExactly (n sa sb sab : ℕ) : Type 0 where
   pub n-few : n < 2 ^ 32
   pub sa-few : sa < 2 ^ 32
   pub sb-few : sb < 2 ^ 32

@@ -1,8 +1,8 @@
 -- The raw cost of document 01. Definitions only.
 use Prim.Native.Nat.{ℕ, _+_, _-_, _*_}
-use mathlib.Core.Bool.{Bool, true, false, cond, _&&_, _||_}
+use mathlib.Core.Bool.{Bool, cond, _||_}
 use mathlib.Core.List.{List}
-use lib.Dec.{leb, ltb, eqb}
+use lib.Dec.{eqb}
 use lib.IntN.{ℤ, pos, negsuc, negℤ, _+ℤ_}
 use lib.Ieee.{Float, binary64, mul, div, ofInt}
 use Rattle.numbers.specs.Root.{rootOf}
@@ -16,6 +16,7 @@ use Rattle.options.specs.declared.RawCost.{RawCost}
 use Rattle.options.specs.declared.RawCost.the-variants.{Blank, Corr}
 use Rattle.options.specs.declared.Side.{Side}
 use Rattle.options.specs.declared.Side.the-variants.{Left, Right}
+use Rattle.options.specs.Frame.{within, inFrame}
 
 -- n, the number of pixels of a window
 abbrev pub pixels : ℕ → ℕ
@@ -45,18 +46,10 @@ pairCost w r a b s x x′ y =
     cond (oneLevel w a x y r || oneLevel w b x′ y r) Blank
     (Corr (correlation (windowCov w a b s x x′ y r) (windowVar w a x y r) (windowVar w b x′ y r)))
 
--- a window centred in column x lies within a row of w pixels
-abbrev pub within : ℕ → ℕ → ℕ → Bool
-within w r x = leb r x && ltb (x + r) w
-
 -- of the window centred at (x, y) and the one in the target column: blank where that window leaves the picture
 unfoldable pub targetCost : ℕ → ℕ → List ℕ → List ℕ → ℤ → ℕ → ℕ → ℤ → RawCost
 targetCost w r a b s x y (negsuc _) = Blank
 targetCost w r a b s x y (pos x′) = cond (within w r x′) (pairCost w r a b s x x′ y) Blank
-
--- the inner frame: r ≤ x < w - r and r ≤ y < h - r
-abbrev pub inFrame : ℕ → ℕ → ℕ → ℕ → ℕ → Bool
-inFrame w h r x y = within w r x && within h r y
 
 -- of the reference a at (x, y) and the target b, s columns further right: blank outside the inner frame
 unfoldable pub shiftedCost : ℕ → ℕ → ℕ → List ℕ → List ℕ → ℤ → ℕ → ℕ → RawCost

@@ -12,7 +12,7 @@ use Rattle.windows.specs.Window.{Inside, cells, TableFrom, windowSum}
 use Rattle.costs.specs.Roots.{pictureTables}
 
 -- the sizes of two pictures and of a window that fits in them
-pub record Frame (w h r : ℕ) : Type 0 where
+pub record WindowFits (w h r : ℕ) : Type 0 where
   pub w-most : w ≤ sideMost
   pub h-most : h ≤ sideMost
   pub r-most : r ≤ blockMost / 2
@@ -25,22 +25,22 @@ pub record Picture (w h : ℕ) (pic : List ℕ) : Type 0 where
   pub small : (i : ℕ) → getD pic i 0 ≤ 255
 
 -- the tables of a picture's levels and squares stand one after the other, each from its cell i on
-pub record Turning (pair : List ℕ) (w h i : ℕ) (pic : List ℕ) : Type 0 where
+pub record TablesFrom (pair : List ℕ) (w h i : ℕ) (pic : List ℕ) : Type 0 where
   pub picture : Picture w h pic
   pub levels : TableFrom pair 0 i w h (levelAt w pic)
   pub squares : TableFrom pair (cells w h) i w h (squareAt w pic)
 
 -- those of some picture, while sums and roots take their place
-pub record Turned (pair : List ℕ) (w h r i : ℕ) : Type 0 where
+pub record TablesTurned (pair : List ℕ) (w h r i : ℕ) : Type 0 where
   pub pic : List ℕ
-  pub frame : Frame w h r
+  pub frame : WindowFits w h r
   pub among : i < cells w h
-  pub held : Turning pair w h i pic
+  pub held : TablesFrom pair w h i pic
 
 -- a room begins with the tables of the pictures a and b
 pub record TablesOf (room : List ℕ) (w h r : ℕ) (a b : List ℕ) : Type 0 where
   pub rest : List ℕ
-  pub frame : Frame w h r
+  pub frame : WindowFits w h r
   pub first : Picture w h a
   pub second : Picture w h b
   pub is : room ≡ pictureTables w h r a ++ pictureTables w h r b ++ rest
@@ -52,13 +52,13 @@ fiveParts w h r a b s = pictureTables w h r a ++ pictureTables w h r b ++ tableO
 -- a room begins with the five parts of the pictures a and b
 pub record RoomOf (room : List ℕ) (w h r : ℕ) (s : ℤ) (a b : List ℕ) : Type 0 where
   pub rest : List ℕ
-  pub frame : Frame w h r
+  pub frame : WindowFits w h r
   pub first : Picture w h a
   pub second : Picture w h b
   pub is : room ≡ fiveParts w h r a b s ++ rest
 
 -- a room begins with the five parts of some two pictures
-pub record Ready (room : List ℕ) (w h r : ℕ) (s : ℤ) : Type 0 where
+pub record RoomReady (room : List ℕ) (w h r : ℕ) (s : ℤ) : Type 0 where
   pub a : List ℕ
   pub b : List ℕ
   pub held : RoomOf room w h r s a b
@@ -74,7 +74,7 @@ pub record Pair (room : List ℕ) (w h r x x′ y : ℕ) : Type 0 where
   pub apart : pos x +ℤ s ≡ pos x′
 
 -- the same of a room with the tables of some two pictures, where the sum of the windows' products is known
-pub record Summed (room : List ℕ) (w h r x x′ y products : ℕ) : Type 0 where
+pub record WindowsSummed (room : List ℕ) (w h r x x′ y products : ℕ) : Type 0 where
   pub s : ℤ
   pub a : List ℕ
   pub b : List ℕ
@@ -85,7 +85,7 @@ pub record Summed (room : List ℕ) (w h r x x′ y products : ℕ) : Type 0 whe
   pub sum : products ≡ windowSum (crossAt w a b s) x y r
 
 -- a pair of windows in each of n columns, from x and from x′ on
-pub record Lined (room : List ℕ) (w h r x x′ y n : ℕ) : Type 0 where
+pub record WindowsInLine (room : List ℕ) (w h r x x′ y n : ℕ) : Type 0 where
   pub s : ℤ
   pub a : List ℕ
   pub b : List ℕ
@@ -100,13 +100,13 @@ pub record Lined (room : List ℕ) (w h r x x′ y n : ℕ) : Type 0 where
 
 -- the room for the two tables of a picture
 pub record PictureRoom (pair pic : List ℕ) (w h r : ℕ) : Type 0 where
-  pub frame : Frame w h r
+  pub frame : WindowFits w h r
   pub bytes : length pic ≡ w * h
   pub cells-of : length pair ≡ 2 * cells w h
 
 -- the sizes of a raw volume, of its pictures and of its room
-pub record Sized (outLength roomLength : ℕ) (a b : List ℕ) (w h r : ℕ) (first : ℤ) (count : ℕ) : Type 0 where
-  pub frame : Frame w h r
+pub record VolumeSizes (outLength roomLength : ℕ) (a b : List ℕ) (w h r : ℕ) (first : ℤ) (count : ℕ) : Type 0 where
+  pub frame : WindowFits w h r
   pub a-bytes : length a ≡ w * h
   pub b-bytes : length b ≡ w * h
   pub first-most : natAbs first ≤ firstMost
@@ -115,11 +115,11 @@ pub record Sized (outLength roomLength : ℕ) (a b : List ℕ) (w h r : ℕ) (fi
   pub room-cells : 5 * cells w h ≤ roomLength
 
 -- and the tables of the two pictures stand in the room
-pub record Tabled (outLength : ℕ) (room a b : List ℕ) (w h r : ℕ) (first : ℤ) (count : ℕ) : Type 0 where
-  pub sizes : Sized outLength (length room) a b w h r first count
+pub record VolumeTabled (outLength : ℕ) (room a b : List ℕ) (w h r : ℕ) (first : ℤ) (count : ℕ) : Type 0 where
+  pub sizes : VolumeSizes outLength (length room) a b w h r first count
   pub tables : take (4 * cells w h) room ≡ pictureTables w h r a ++ pictureTables w h r b
 
 -- the sizes of a call that is not refused: both pictures have one size, and the count is no negative number
-pub record Accepted (left right : List ℕ) (w h : ℕ) (options : BlockMatchOptions) (outLength roomLength : ℕ) : Type 0 where
-  pub sizes : Sized outLength roomLength left right w h (options .«block_size» / 2) (options .«min_disparity») (natAbs (options .«num_disparities»))
+pub record VolumeAccepted (left right : List ℕ) (w h : ℕ) (options : BlockMatchOptions) (outLength roomLength : ℕ) : Type 0 where
+  pub sizes : VolumeSizes outLength roomLength left right w h (options .«block_size» / 2) (options .«min_disparity») (natAbs (options .«num_disparities»))
   pub whole : options .«num_disparities» ≡ pos (natAbs (options .«num_disparities»))

@@ -21,13 +21,13 @@ unfoldable pub planeCells : ℕ → ℕ → ℕ → List ℕ → List ℕ → �
 planeCells w h r a b s = listOf (w * h) (planeCell w h r a b s)
 
 -- index k of pixel p = y·w + x
-abbrev pub cellOf : Side → ℕ → ℕ → ℕ → ℤ → List ℕ → List ℕ → ℕ → ℕ → Float
-cellOf side w h r first left right k p = stored (rawCost side w h r first left right (p % w) (p / w) k)
+abbrev pub volumeCell : Side → ℕ → ℕ → ℕ → ℤ → List ℕ → List ℕ → ℕ → ℕ → Float
+volumeCell side w h r first left right k p = stored (rawCost side w h r first left right (p % w) (p / w) k)
 
 -- THE RAW VOLUME: cell k·w·h + y·w + x has index k of pixel (x, y)
 unfoldable pub rawVolume : Side → ℕ → ℕ → ℕ → ℤ → ℕ → List ℕ → List ℕ → List Float
 rawVolume side w h r first count left right =
-    listOf (count * (w * h)) (λ c. cellOf side w h r first left right (c / (w * h)) (c % (w * h)))
+    listOf (count * (w * h)) (λ c. volumeCell side w h r first left right (c / (w * h)) (c % (w * h)))
 
 -- cell c of the planes of the reference a against the target b
 abbrev pub planesCell : Side → ℕ → ℕ → ℕ → ℤ → List ℕ → List ℕ → ℕ → Float

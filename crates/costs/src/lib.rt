@@ -1,18 +1,20 @@
 // The raw cost and the raw volume (document 01).
 ghost use mathlib.Core.Path.{_≡_};
 ghost use lib.ListN.{length};
-ghost use Rattle.costs.specs.Outcome.{rawCall, RawDone};
+ghost use Rattle.costs.specs.Outcome.{rawCall, RawOutcome};
+use calls::Call;
+use calls::Output;
 use options::BlockMatchOptions;
+use options::Mode;
 use options::Side;
-use refusals::Call;
-use refusals::Output;
 
 mod plane;
 pub mod raw;
 pub mod tables;
 pub mod volume;
 
-// What is asked for and lent: no mode, so no penalty is read, and no float room.
+// What is asked for and lent: no mode is used, and the block's stands there; so no penalty is read, and there is no float
+// room.
 pub fn raw_call(
     left: &[u8],
     left_w: usize,
@@ -37,7 +39,7 @@ pub fn raw_call(
         first: opts.min_disparity,
         count: opts.num_disparities,
         block: opts.block_size,
-        semi_global: false,
+        mode: Mode::Block,
         p1: 0.0,
         p2: 0.0,
         out_len,
@@ -60,7 +62,7 @@ pub fn raw_volume(
     out: &mut [f32],
     room: &mut [u64],
 ) -> u32
-    ensures { λ n. ⌜ RawDone n (rawCall (now (left .entry)) «left_w» «left_h» (now (right .entry)) «right_w» «right_h» opts (length (now (out .entry))) (length (now (room .entry)))) side (now (left .entry)) (now (right .entry)) (now (out .entry)) (now (out .exit)) (now (room .entry)) (now (room .exit)) ⌝ }
+    ensures { λ n. ⌜ RawOutcome n (rawCall (now (left .entry)) «left_w» «left_h» (now (right .entry)) «right_w» «right_h» opts (length (now (out .entry))) (length (now (room .entry)))) side (now (left .entry)) (now (right .entry)) (now (out .entry)) (now (out .exit)) (now (room .entry)) (now (room .exit)) ⌝ }
 {
     let call = raw_call(
         left,
@@ -73,7 +75,7 @@ pub fn raw_volume(
         out.len(),
         room.len(),
     );
-    let refused = refusals::refusal(call);
+    let refused = calls::refusal(call);
     if refused != 0 {
         return refused;
     }

@@ -3,19 +3,20 @@ ghost use mathlib.Core.Path.{_≡_};
 ghost use mathlib.Core.Bool.{true};
 ghost use mathlib.Core.List.{List};
 ghost use Prim.Native.Nat.{ℕ, _+_, _-_, _*_, _/_, _≤_, _<_};
-ghost use lib.IntN.{ℤ, pos, natAbs, _+ℤ_};
+ghost use lib.IntN.{ℤ, natAbs};
 ghost use lib.Ieee.{inf};
 ghost use lib.ListN.{length};
 ghost use Rattle.lists.specs.Lists.{listOf};
 ghost use Rattle.options.specs.Limits.{sideMost, blockMost, shiftMost};
 ghost use Rattle.options.specs.Costs.{stored};
 ghost use Rattle.costs.specs.Raw.{pairCost};
-ghost use Rattle.costs.specs.Span.{spanOf};
+ghost use Rattle.costs.specs.Span.{windowSpan};
 ghost use Rattle.costs.specs.Volume.{rowCells, planeCells};
-ghost use Rattle.costs.specs.Rooms.{RoomOf, Ready, Lined};
+ghost use Rattle.costs.specs.Rooms.{RoomOf, RoomReady, WindowsInLine};
 use crate::raw::pair_cost;
 use lists::fill_first;
 use options::BlockMatchOptions;
+use options::is_within;
 use windows::distance;
 
 // The columns of a row where both windows lie within it, and where the target's begin.
@@ -35,7 +36,7 @@ fn left_of(w: usize, taken: usize) -> usize
 // Those columns, for one shift.
 fn span_of(w: usize, r: usize, shift: i64) -> Span
     requires { ⌜ (w ≤ sideMost) × (r ≤ blockMost / 2) × (natAbs shift ≤ shiftMost) ⌝ }
-    ensures { λ s. ⌜ s ≡ spanOf w r shift ⌝ }
+    ensures { λ s. ⌜ s ≡ windowSpan w r shift ⌝ }
 {
     let apart = distance(shift);
     let count = left_of(w, 2 * r + apart);
@@ -71,7 +72,7 @@ fn raw_span(
     x: usize,
     other: usize,
 )
-    requires { ⌜ Lined (now room) w h r x other y (length (now part)) ⌝ }
+    requires { ⌜ WindowsInLine (now room) w h r x other y (length (now part)) ⌝ }
     ensures { λ _. ⌜ ((s : ℤ) (a b : List ℕ) → RoomOf (now (room .entry)) w h r s a b → now (part .exit) ≡ listOf (length (now (part .entry))) (λ i. stored (pairCost w r a b s (x + i) (other + i) y))) ⌝ }
 {
     for i in 0..part.len() {
@@ -81,14 +82,11 @@ fn raw_span(
 
 // Row y of the plane.
 fn raw_row(row: &mut [f32], room: &[u64], w: usize, h: usize, r: usize, y: usize, shift: i64)
-    requires { ⌜ Ready (now room) w h r shift × (natAbs shift ≤ shiftMost) × (y < h) × (length (now row) ≡ w) ⌝ }
+    requires { ⌜ RoomReady (now room) w h r shift × (natAbs shift ≤ shiftMost) × (y < h) × (length (now row) ≡ w) ⌝ }
     ensures { λ _. ⌜ ((a b : List ℕ) → RoomOf (now (room .entry)) w h r shift a b → now (row .exit) ≡ rowCells w h r a b shift y) ⌝ }
 {
     blank_row(row);
-    if y < r {
-        return;
-    }
-    if h <= y + r {
+    if !is_within(h, r, y) {
         return;
     }
     let span = span_of(w, r, shift);
@@ -102,7 +100,7 @@ fn raw_row(row: &mut [f32], room: &[u64], w: usize, h: usize, r: usize, y: usize
 
 // The plane, row by row.
 pub fn raw_plane(plane: &mut [f32], room: &[u64], w: usize, h: usize, r: usize, shift: i64)
-    requires { ⌜ Ready (now room) w h r shift × (natAbs shift ≤ shiftMost) × (length (now plane) ≡ w * h) ⌝ }
+    requires { ⌜ RoomReady (now room) w h r shift × (natAbs shift ≤ shiftMost) × (length (now plane) ≡ w * h) ⌝ }
     ensures { λ _. ⌜ ((a b : List ℕ) → RoomOf (now (room .entry)) w h r shift a b → now (plane .exit) ≡ planeCells w h r a b shift) ⌝ }
 {
     let mut y = 0;

@@ -11,8 +11,8 @@ ghost use Rattle.costs.specs.Raw.{pairCost};
 ghost use Rattle.windows.specs.Moments.{covarianceOf};
 ghost use Rattle.windows.specs.Table.{crossAt};
 ghost use Rattle.windows.specs.Window.{windowSum};
-ghost use Rattle.costs.specs.Quotient.{Counted, isFlat, one, quotientCost, Divisible};
-ghost use Rattle.costs.specs.Rooms.{TablesOf, Summed, RoomOf, Pair};
+ghost use Rattle.costs.specs.Quotient.{CountsExactly, isFlat, one, quotientCost, Divisible};
+ghost use Rattle.costs.specs.Rooms.{TablesOf, WindowsSummed, RoomOf, Pair};
 use numbers::narrow::narrow_plain;
 use options::BlockMatchOptions;
 use options::RawCost;
@@ -28,7 +28,7 @@ fn counted(n: u64) -> f64
 
 // n·Sab - Sa·Sb, of the sums and the sum of products of two windows of n levels: f64 counts each step.
 fn covariance(n: u64, sum_a: u64, sum_b: u64, products: u64) -> f64
-    requires { ⌜ Counted n «sum_a» «sum_b» products ⌝ }
+    requires { ⌜ CountsExactly n «sum_a» «sum_b» products ⌝ }
     ensures { λ v. ⌜ v ≡ ofInt binary64 (covarianceOf n «sum_a» «sum_b» products) ⌝ }
 {
     counted(n) * counted(products) - counted(sum_a) * counted(sum_b)
@@ -81,7 +81,7 @@ pub fn summed_cost(
     y: usize,
     products: u64,
 ) -> RawCost
-    requires { ⌜ Summed (now room) w h r x other y products ⌝ }
+    requires { ⌜ WindowsSummed (now room) w h r x other y products ⌝ }
     ensures { λ c. ⌜ ((s : ℤ) (a b : List ℕ) → TablesOf (now (room .entry)) w h r a b → products ≡ windowSum (crossAt w a b s) x y r → c ≡ pairCost w r a b s x other y) ⌝ }
 {
     let side = w + 1;

@@ -3,7 +3,7 @@ ghost use mathlib.Core.Path.{_≡_};
 ghost use mathlib.Core.List.{List};
 ghost use Prim.Native.Nat.{ℕ, _^_, _≤_};
 ghost use Rattle.costs.specs.Roots.{rootBits, windowCell, sumIn, rootIn, pictureTables};
-ghost use Rattle.costs.specs.Rooms.{Turning, Turned, PictureRoom};
+ghost use Rattle.costs.specs.Rooms.{TablesFrom, TablesTurned, PictureRoom};
 use numbers::root::root;
 use windows::fill_levels;
 use windows::fill_squares;
@@ -24,8 +24,8 @@ fn root_bits(variance: u64) -> u64
 
 // The sum of the levels of the window whose top left corner is cell i, 0 where none fits.
 fn sum_at(pair: &[u64], w: usize, h: usize, r: usize, i: usize) -> u64
-    requires { ⌜ Turned (now pair) w h r i ⌝ }
-    ensures { λ v. ⌜ ((pic : List ℕ) → Turning (now (pair .entry)) w h i pic → v ≡ windowCell w h r (sumIn w r pic) i) ⌝ }
+    requires { ⌜ TablesTurned (now pair) w h r i ⌝ }
+    ensures { λ v. ⌜ ((pic : List ℕ) → TablesFrom (now (pair .entry)) w h i pic → v ≡ windowCell w h r (sumIn w r pic) i) ⌝ }
 {
     let side = w + 1;
     let column = i % side;
@@ -41,8 +41,8 @@ fn sum_at(pair: &[u64], w: usize, h: usize, r: usize, i: usize) -> u64
 
 // The bits of the root of the variance of the window whose top left corner is cell i, 0 where none fits.
 fn root_at(pair: &[u64], w: usize, h: usize, r: usize, i: usize) -> u64
-    requires { ⌜ Turned (now pair) w h r i ⌝ }
-    ensures { λ v. ⌜ ((pic : List ℕ) → Turning (now (pair .entry)) w h i pic → v ≡ windowCell w h r (rootIn w r pic) i) ⌝ }
+    requires { ⌜ TablesTurned (now pair) w h r i ⌝ }
+    ensures { λ v. ⌜ ((pic : List ℕ) → TablesFrom (now (pair .entry)) w h i pic → v ≡ windowCell w h r (rootIn w r pic) i) ⌝ }
 {
     let side = w + 1;
     let column = i % side;

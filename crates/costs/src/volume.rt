@@ -1,15 +1,14 @@
 // The raw volume: one plane for each index.
 ghost use mathlib.Core.Path.{_≡_};
-ghost use Prim.Native.Nat.{ℕ, _+_, _*_, _/_, _≤_, _<_};
+ghost use Prim.Native.Nat.{_+_, _*_, _/_, _≤_, _<_};
 ghost use lib.IntN.{natAbs};
-ghost use lib.ListN.{length, drop, replicate};
-ghost use mathlib.Core.List.{_++_};
+ghost use lib.ListN.{length, drop};
 ghost use Rattle.lists.specs.Lists.{cleared};
 ghost use Rattle.options.specs.Limits.{firstMost, countMost};
 ghost use Rattle.windows.specs.Window.{cells};
 ghost use Rattle.costs.specs.Raw.{shiftOf};
 ghost use Rattle.costs.specs.Volume.{planesOf, rawVolume};
-ghost use Rattle.costs.specs.Rooms.{Sized, Tabled, Accepted};
+ghost use Rattle.costs.specs.Rooms.{VolumeSizes, VolumeTabled, VolumeAccepted};
 use crate::plane::raw_plane;
 use crate::tables::fill_picture;
 use lists::clear_u64;
@@ -41,7 +40,7 @@ pub fn shift_at(side: Side, first: i64, k: usize) -> i64
 
 // The planes of all indices, from the tables of the two pictures; the products' table is filled anew for each.
 fn fill_planes(out: &mut [f32], room: &mut [u64], a: &[u8], b: &[u8], plan: Plan)
-    requires { ⌜ Tabled (length (now out)) (now room) (now a) (now b) (plan .w) (plan .h) (plan .r) (plan .first) (plan .count) ⌝ }
+    requires { ⌜ VolumeTabled (length (now out)) (now room) (now a) (now b) (plan .w) (plan .h) (plan .r) (plan .first) (plan .count) ⌝ }
     ensures { λ _. ⌜ (now (out .exit) ≡ planesOf (plan .side) (plan .w) (plan .h) (plan .r) (plan .first) (plan .count) (now (a .entry)) (now (b .entry))) × (drop (5 * cells (plan .w) (plan .h)) (now (room .exit)) ≡ drop (5 * cells (plan .w) (plan .h)) (now (room .entry))) ⌝ }
 {
     let w = plan.w;
@@ -67,7 +66,7 @@ fn fill_planes(out: &mut [f32], room: &mut [u64], a: &[u8], b: &[u8], plan: Plan
 
 // The raw volume of the reference a and the target b; the room's cells that were needed are zero afterwards.
 fn make_volume(out: &mut [f32], room: &mut [u64], a: &[u8], b: &[u8], plan: Plan)
-    requires { ⌜ Sized (length (now out)) (length (now room)) (now a) (now b) (plan .w) (plan .h) (plan .r) (plan .first) (plan .count) ⌝ }
+    requires { ⌜ VolumeSizes (length (now out)) (length (now room)) (now a) (now b) (plan .w) (plan .h) (plan .r) (plan .first) (plan .count) ⌝ }
     ensures { λ _. ⌜ (now (out .exit) ≡ planesOf (plan .side) (plan .w) (plan .h) (plan .r) (plan .first) (plan .count) (now (a .entry)) (now (b .entry))) × (now (room .exit) ≡ cleared 0 (5 * cells (plan .w) (plan .h)) (now (room .entry))) ⌝ }
 {
     let w = plan.w;
@@ -94,7 +93,7 @@ pub fn volume_of(
     out: &mut [f32],
     room: &mut [u64],
 )
-    requires { ⌜ Accepted (now left) (now right) w h opts (length (now out)) (length (now room)) ⌝ }
+    requires { ⌜ VolumeAccepted (now left) (now right) w h opts (length (now out)) (length (now room)) ⌝ }
     ensures { λ _. ⌜ (now (out .exit) ≡ rawVolume side w h (opts .«block_size» / 2) (opts .«min_disparity») (natAbs (opts .«num_disparities»)) (now (left .entry)) (now (right .entry))) × (now (room .exit) ≡ cleared 0 (5 * cells w h) (now (room .entry))) ⌝ }
 {
     let plan = Plan {

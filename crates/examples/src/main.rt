@@ -2,15 +2,24 @@
 use libc::STDOUT_FILENO;
 use matching::match_block;
 use options::BlockMatchOptions;
+use options::Mode;
 
 // An example's options; the others are the defaults, and so the first disparity is 0.
 fn with(count: i32, block: usize, semi_global: bool, left_right: bool) -> BlockMatchOptions {
-    let mut opts = BlockMatchOptions::defaults();
-    opts.num_disparities = count;
-    opts.block_size = block;
-    opts.semi_global = semi_global;
-    opts.lr_consistency = left_right;
-    opts
+    let other = BlockMatchOptions::defaults();
+    BlockMatchOptions {
+        min_disparity: other.min_disparity,
+        num_disparities: count,
+        block_size: block,
+        min_correlation: other.min_correlation,
+        uniqueness_ratio: other.uniqueness_ratio,
+        lr_consistency: left_right,
+        lr_max_diff: other.lr_max_diff,
+        subpixel: other.subpixel,
+        mode: Mode::of_flag(semi_global),
+        sgm_p1: other.sgm_p1,
+        sgm_p2: other.sgm_p2,
+    }
 }
 
 fn tell(is_ok: bool, name: &[u8]) {

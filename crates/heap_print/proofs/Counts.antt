@@ -1,6 +1,6 @@
 -- How many disparities a request that is matched has, and how many valid cells a map. Assumes nothing.
 use Prim.Native.Nat.{ℕ, _+_, _*_, _≤_}
-use mathlib.Core.Path.{_≡_, refl}
+use mathlib.Core.Path.{_≡_, refl, _∙_}
 use mathlib.Core.Bool.{Bool, true, false, cond, _||_}
 use mathlib.Core.List.{List}
 use native.Mathlib.Omega.{arith}
@@ -12,6 +12,7 @@ use Rattle.lists.proofs.Tests.{or-false}
 use Rattle.maps.specs.declared.Number.{Number}
 use Rattle.maps.specs.declared.Number.the-variants.{Is, Refused}
 use Rattle.maps.specs.Map.{goodSize, valids, validCount}
+use Rattle.maps.proofs.Facts.{count-is}
 use Rattle.heap_text.specs.declared.head.Request.{Request}
 use Rattle.heap_text.specs.declared.plan.Plan.the-variants.{Match, TooBig, BadInput}
 use Rattle.heap_text.specs.Plan.{planOf}
@@ -30,8 +31,7 @@ plan-count s q e = go (ltb 24 (q .width) || ltb 16 (q .height) || ltb 8 (q .coun
 -- a map of a good size gets its valid cells, and no number
 module _ (w h : ℕ) (cells : List Float) (good : goodSize w h (length cells) ≡ true) (r : Number) (counted : r ≡ validCount w h cells) where
   is-valids : r ≡ Is (valids cells)
-  unfolding validCount
-  is-valids = rw good at counted
+  is-valids = counted ∙ count-is w h cells good
 
   pub count-found : (n : ℕ) → r ≡ Is n → n ≡ valids cells
   count-found n e = let f = is-valids in cc

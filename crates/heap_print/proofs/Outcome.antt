@@ -7,11 +7,11 @@ use lib.Ieee.{Float}
 use borrow.Author.Tests.{eq-eqb, ne-eqb, le-leb}
 use Rattle.options.specs.Limits.{sideMost}
 use Rattle.options.specs.declared.BlockMatchOptions.{BlockMatchOptions}
-use Rattle.refusals.specs.Refusals.{refusal}
-use Rattle.refusals.proofs.Rows.{accepted}
+use Rattle.calls.specs.Refusals.{refusal}
+use Rattle.calls.proofs.Rows.{accepted}
 use Rattle.maps.specs.Map.{goodSize, valids}
 use Rattle.matching.specs.Maps.{mapOf}
-use Rattle.matching.specs.Outcome.{matchCall, outAfter, MatchDone}
+use Rattle.matching.specs.Outcome.{matchCall, MatchOutcome}
 use Rattle.heap_text.specs.declared.head.Request.{Request}
 use Rattle.heap_text.specs.Text.{mapText, refusedText}
 use Rattle.heap_print.specs.Answer.{wholeRoom, floatRoom, optionsOf, leftOf, rightOf, callFor, matchedText}
@@ -23,8 +23,7 @@ pub record Answered (s : List ℕ) (q : Request) (n : ℕ) (cells : List Float) 
 
 pub answered : (s : List ℕ) (q : Request) {opts : BlockMatchOptions} {left right : List ℕ} → opts ≡ optionsOf q → left ≡ leftOf s q → right ≡ rightOf s q
     → {n : ℕ} {out out′ : List Float} {whole whole′ : List ℕ} {float float′ : List Float} {a b c : ℕ} → a ≡ q .width * q .height → b ≡ wholeRoom → c ≡ floatRoom
-    → MatchDone n (matchCall left (q .width) (q .height) right (q .width) (q .height) opts a b c) opts left right out out′ whole whole′ float float′ → Answered s q n out′
-unfolding outAfter
+    → MatchOutcome n (matchCall left (q .width) (q .height) right (q .width) (q .height) opts a b c) opts left right out out′ whole whole′ float float′ → Answered s q n out′
 answered s q is-opts is-left is-right out-cells whole-cells float-cells done = record {
   number = rw (done .answer, is-opts, is-left, is-right, out-cells, whole-cells, float-cells);
   found = λ none. rw (none, is-opts, is-left, is-right) at (done .output);

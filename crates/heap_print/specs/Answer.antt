@@ -6,10 +6,10 @@ use mathlib.Core.List.{List}
 use lib.ListN.{length, take, drop}
 use lib.Dec.{eqb}
 use lib.IntN.{pos}
-use Rattle.options.specs.Options.{defaultOptions}
+use Rattle.options.specs.Options.{modeOf, defaultOptions}
 use Rattle.options.specs.declared.BlockMatchOptions.{BlockMatchOptions}
-use Rattle.refusals.specs.declared.Call.{Call}
-use Rattle.refusals.specs.Refusals.{refusal}
+use Rattle.calls.specs.declared.Call.{Call}
+use Rattle.calls.specs.Refusals.{refusal}
 use Rattle.lists.specs.Stores.{Printed}
 use Rattle.maps.specs.Map.{valids}
 use Rattle.matching.specs.Maps.{mapOf}
@@ -38,7 +38,7 @@ optionsOf q = record {
   «lr_consistency» = q .«left_right»;
   «lr_max_diff» = defaultOptions .«lr_max_diff»;
   subpixel = q .subpixel;
-  «semi_global» = q .«semi_global»;
+  mode = modeOf (q .«semi_global»);
   «sgm_p1» = defaultOptions .«sgm_p1»;
   «sgm_p2» = defaultOptions .«sgm_p2»;
 }

@@ -8,6 +8,7 @@ use libc::STDOUT_FILENO;
 use maps::Number;
 use matching::match_block;
 use options::BlockMatchOptions;
+use options::Mode;
 ghost use mathlib.Core.Path.{_≡_};
 ghost use mathlib.Core.Bool.{true};
 ghost use Prim.Native.Nat.{_+_, _*_, _≤_};
@@ -25,14 +26,20 @@ fn options_of(q: Request) -> BlockMatchOptions
     requires { ⌜ q .count ≤ 8 ⌝ }
     ensures { λ r. ⌜ r ≡ optionsOf q ⌝ }
 {
-    let mut opts = BlockMatchOptions::defaults();
-    opts.min_disparity = q.first;
-    opts.num_disparities = q.count as i32;
-    opts.block_size = q.block;
-    opts.semi_global = q.semi_global;
-    opts.lr_consistency = q.left_right;
-    opts.subpixel = q.subpixel;
-    opts
+    let other = BlockMatchOptions::defaults();
+    BlockMatchOptions {
+        min_disparity: q.first,
+        num_disparities: q.count as i32,
+        block_size: q.block,
+        min_correlation: other.min_correlation,
+        uniqueness_ratio: other.uniqueness_ratio,
+        lr_consistency: q.left_right,
+        lr_max_diff: other.lr_max_diff,
+        subpixel: q.subpixel,
+        mode: Mode::of_flag(q.semi_global),
+        sgm_p1: other.sgm_p1,
+        sgm_p2: other.sgm_p2,
+    }
 }
 
 // Writes a map, with its valid cells counted.

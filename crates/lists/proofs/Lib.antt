@@ -1,6 +1,7 @@
 -- The laws of the words of specs/, and of signed numbers.
 pub mod Lists
 pub mod Tests
+pub mod Firsts
 pub mod Walks
 pub mod Clearing
 pub mod Copying
@@ -8,5 +9,3 @@ pub mod Rows
 pub mod Sums
 pub mod Sizes
 pub mod Stores
-pub mod Stepwise
-pub mod Writes

@@ -3,7 +3,4 @@ pub mod Lists
 pub mod Rows
 pub mod Sums
 pub mod Stores
-pub mod Steps
-pub mod Writes
-pub mod Given
 pub mod Turned

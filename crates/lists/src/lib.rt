@@ -8,12 +8,6 @@ ghost use Prim.Native.Nat.{_≤_};
 ghost use lib.ListN.{length, replicate};
 ghost use Rattle.lists.specs.Lists.{cleared};
 
-// How many bytes a text takes or has taken, or the refusal.
-pub enum Written {
-    Bytes(usize),
-    Refused(u8),
-}
-
 // Sets every cell to zero.
 pub fn clear_u64(cells: &mut [u64])
     ensures { λ _. ⌜ now (cells .exit) ≡ replicate (length (now (cells .entry))) 0 ⌝ }

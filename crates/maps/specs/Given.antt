@@ -3,7 +3,7 @@ use Prim.Native.Nat.{ℕ}
 use mathlib.Core.Bool.{Bool}
 use mathlib.Core.Option.{Option, none, some}
 use lib.Ieee.{Float}
-use Rattle.lists.specs.Steps.{Or, is, refused}
+use Rattle.refusals.specs.Steps.{Or, is, refused}
 use Rattle.maps.specs.declared.Cell.{Cell}
 use Rattle.maps.specs.declared.Got.{Got}
 use Rattle.maps.specs.declared.Got.the-variants as got

@@ -1,3 +1,4 @@
+-- What a map's functions answer. A reader has to believe `Cells`, `Map` and `Given`; `Extremes` says once more, without the walk, what a range is.
 pub mod Cells
 pub mod Map
 pub mod Given

@@ -1,12 +1,14 @@
--- What a map's functions answer, each from the list of the map's cells. Assumes nothing.
+-- What a map's functions answer, each from the list of the map's cells. Definitions only.
 use Prim.Native.Nat.{ℕ, _+_, _*_, _/_}
-use mathlib.Core.Bool.{Bool, _&&_, cond}
-use mathlib.Core.List.{List, [], _∷_}
+use mathlib.Core.Bool.{Bool, not, _&&_, cond}
+use mathlib.Core.List.{List, [], _∷_, _++_}
 use lib.ListN.{length, getD}
-use lib.Dec.{leb, ltb, eqb}
+use lib.Dec.{ltb, eqb}
 use lib.Ieee.{Float, nan, lt}
 use lib.Ieee.Scale.{finite}
-use Rattle.options.specs.Limits.{sideMost}
+use Rattle.options.specs.Limits.{isSide}
+use Rattle.refusals.specs.Answered.{Row, row, firstOf}
+use Rattle.refusals.specs.Outcome.{answerFor}
 use Rattle.maps.specs.declared.Got.{Got}
 use Rattle.maps.specs.declared.Got.the-variants as got
 use Rattle.maps.specs.declared.Validity.{Validity}
@@ -19,13 +21,21 @@ use Rattle.maps.specs.declared.Extent.{Extent}
 use Rattle.maps.specs.declared.Extent.the-variants as extent
 use Rattle.maps.specs.Cells.{cellOf}
 
--- width and height from 1 to 2,048, and as many cells as pixels
+-- width and height in their range, and as many cells as pixels
 unfoldable pub goodSize : ℕ → ℕ → ℕ → Bool
-goodSize w h n = leb 1 w && leb w sideMost && leb 1 h && leb h sideMost && eqb n (w * h)
+goodSize w h n = isSide w && isSide h && eqb n (w * h)
 
 -- whether the pixel lies in the map
 unfoldable pub inside : ℕ → ℕ → ℕ → ℕ → Bool
 inside w h x y = ltb x w && ltb y h
+
+-- of a map: 23 it has no good size
+abbrev pub sizeRows : ℕ → ℕ → ℕ → List Row
+sizeRows w h n = row 23 (not (goodSize w h n)) ∷ []
+
+-- of one pixel of it: after that 26 the pixel lies outside
+abbrev pub pixelRows : ℕ → ℕ → ℕ → ℕ → ℕ → List Row
+pixelRows w h n x y = sizeRows w h n ++ (row 26 (not (inside w h x y)) ∷ [])
 
 -- the number in the buffer of the pixel (x, y)
 abbrev pub pixel : ℕ → List Float → ℕ → ℕ → Float
@@ -33,23 +43,24 @@ pixel w cells x y = getD cells (y * w + x) nan
 
 -- the cell of a pixel
 unfoldable pub gotAt : ℕ → ℕ → List Float → ℕ → ℕ → Got
-gotAt w h cells x y = cond (goodSize w h (length cells)) (cond (inside w h x y) (got.Cell (cellOf (pixel w cells x y))) (got.Refused 26)) (got.Refused 23)
+gotAt w h cells x y = answerFor (firstOf (pixelRows w h (length cells) x y)) got.Refused (got.Cell (cellOf (pixel w cells x y)))
 
 -- whether the cell of a pixel is valid
 unfoldable pub validAt : ℕ → ℕ → List Float → ℕ → ℕ → Validity
-validAt w h cells x y = cond (goodSize w h (length cells)) (cond (inside w h x y) (validity.Is (finite (pixel w cells x y))) (validity.Refused 26)) (validity.Refused 23)
+validAt w h cells x y = answerFor (firstOf (pixelRows w h (length cells) x y)) validity.Refused (validity.Is (finite (pixel w cells x y)))
 
 -- how many of the cells are valid
 unfoldable pub valids : List Float → ℕ
 valids [] = 0
 valids (c ∷ cs) = cond (finite c) 1 0 + valids cs
 
+-- the map's answer
 unfoldable pub validCount : ℕ → ℕ → List Float → Number
-validCount w h cells = cond (goodSize w h (length cells)) (number.Is (valids cells)) (number.Refused 23)
+validCount w h cells = answerFor (firstOf (sizeRows w h (length cells))) number.Refused (number.Is (valids cells))
 
 -- 1000 · valid / (w · h), rounded down
 unfoldable pub coverOf : ℕ → ℕ → List Float → Number
-coverOf w h cells = cond (goodSize w h (length cells)) (number.Is (1000 * valids cells / (w * h))) (number.Refused 23)
+coverOf w h cells = answerFor (firstOf (sizeRows w h (length cells))) number.Refused (number.Is (1000 * valids cells / (w * h)))
 
 -- the lesser and the greater of a further number and what there was: an equal one leaves the earlier
 unfoldable pub lesserOf : Float → Float → Float
@@ -78,4 +89,4 @@ extentOf range.None = extent.None
 extentOf (range.Span lo hi) = extent.Span lo hi
 
 unfoldable pub validRange : ℕ → ℕ → List Float → Extent
-validRange w h cells = cond (goodSize w h (length cells)) (extentOf (rangeOf cells)) (extent.Refused 23)
+validRange w h cells = answerFor (firstOf (sizeRows w h (length cells))) extent.Refused (extentOf (rangeOf cells))

@@ -1,12 +1,13 @@
 // A disparity map over cells that the caller owns: one cell, whether it is valid, how many are, the least and the greatest, and the
 // cover figure. The covered functions take the sizes and the slice; `MapView` holds them together, and its functions take it apart.
 use numbers::plain::is_finite;
-use options::SIDE_MOST;
+use options::is_side;
 ghost use mathlib.Core.Path.{_≡_};
 ghost use mathlib.Core.Bool.{cond};
 ghost use lib.Ieee.Scale.{finite};
+ghost use Rattle.refusals.specs.Answered.{firstOf};
 ghost use Rattle.maps.specs.Cells.{inBuffer, cellOf};
-ghost use Rattle.maps.specs.Map.{goodSize, gotAt, validAt, valids, validCount, coverOf, lesserOf, greaterOf, rangeOf, validRange};
+ghost use Rattle.maps.specs.Map.{goodSize, sizeRows, pixelRows, gotAt, validAt, valids, validCount, coverOf, lesserOf, greaterOf, rangeOf, validRange};
 
 // One cell of a map: the mark of a cell that has no number, or a number.
 pub enum Cell {
@@ -64,73 +65,83 @@ pub enum Extent {
     Refused(u8),
 }
 
-// Whether a map has a size from 1 to 2,048 each way, and as many cells as pixels.
+// Whether a map has a width and a height in their range, and as many cells as pixels.
 pub fn size_good(width: usize, height: usize, length: usize) -> bool
     ensures { λ r. ⌜ r ≡ goodSize width height length ⌝ }
 {
-    if width < 1 {
+    if !is_side(width) {
         return false;
     }
-    if SIDE_MOST < width {
-        return false;
-    }
-    if height < 1 {
-        return false;
-    }
-    if SIDE_MOST < height {
+    if !is_side(height) {
         return false;
     }
     length == width * height
+}
+
+// What a question about a map is refused with, 0 for none.
+pub fn size_refusal(width: usize, height: usize, length: usize) -> u8
+    ensures { λ n. ⌜ n ≡ firstOf (sizeRows width height length) ⌝ }
+{
+    if size_good(width, height, length) {
+        0
+    } else {
+        23
+    }
+}
+
+// What a question about one pixel of a map is refused with, 0 for none.
+pub fn pixel_refusal(width: usize, height: usize, length: usize, x: usize, y: usize) -> u8
+    ensures { λ n. ⌜ n ≡ firstOf (pixelRows width height length x y) ⌝ }
+{
+    let refused = size_refusal(width, height, length);
+    if refused != 0 {
+        return refused;
+    }
+    if width <= x {
+        return 26;
+    }
+    if height <= y {
+        return 26;
+    }
+    0
 }
 
 // The cell of a pixel.
 pub fn cell_at(width: usize, height: usize, cells: &[f32], x: usize, y: usize) -> Got
     ensures { λ r. ⌜ r ≡ gotAt width height (now (cells .entry)) x y ⌝ }
 {
-    if size_good(width, height, cells.len()) {
-        if width <= x {
-            return Got::Refused(26);
-        }
-        if height <= y {
-            return Got::Refused(26);
-        }
-        let i = y * width + x;
-        let c = Cell::of_cell(cells[i]);
-        Got::Cell(c)
-    } else {
-        Got::Refused(23)
+    let refused = pixel_refusal(width, height, cells.len(), x, y);
+    if refused != 0 {
+        return Got::Refused(refused);
     }
+    let i = y * width + x;
+    let c = Cell::of_cell(cells[i]);
+    Got::Cell(c)
 }
 
 // Whether the cell of a pixel is valid, which a finite number is.
 pub fn valid_at(width: usize, height: usize, cells: &[f32], x: usize, y: usize) -> Validity
     ensures { λ r. ⌜ r ≡ validAt width height (now (cells .entry)) x y ⌝ }
 {
-    if size_good(width, height, cells.len()) {
-        if width <= x {
-            return Validity::Refused(26);
-        }
-        if height <= y {
-            return Validity::Refused(26);
-        }
-        let i = y * width + x;
-        let v = is_finite(cells[i]);
-        Validity::Is(v)
-    } else {
-        Validity::Refused(23)
+    let refused = pixel_refusal(width, height, cells.len(), x, y);
+    if refused != 0 {
+        return Validity::Refused(refused);
     }
+    let i = y * width + x;
+    let v = is_finite(cells[i]);
+    Validity::Is(v)
 }
 
 // How many cells are valid.
 pub fn count_valid(width: usize, height: usize, cells: &[f32]) -> Number
     ensures { λ r. ⌜ r ≡ validCount width height (now (cells .entry)) ⌝ }
 {
-    if size_good(width, height, cells.len()) {
-        let n = valids_in(cells);
-        Number::Is(n)
-    } else {
-        Number::Refused(23)
+    let refused = size_refusal(width, height, cells.len());
+    if refused != 0 {
+        return Number::Refused(refused);
     }
+    let n = valids_in(cells);
+    Number::Is(n)
 }
 
 // How many numbers of a slice are finite.
@@ -152,12 +163,12 @@ pub fn valids_in(cells: &[f32]) -> usize
 pub fn cover(width: usize, height: usize, cells: &[f32]) -> Number
     ensures { λ r. ⌜ r ≡ coverOf width height (now (cells .entry)) ⌝ }
 {
-    if size_good(width, height, cells.len()) {
-        let n = valids_in(cells);
-        Number::Is(1000 * n / (width * height))
-    } else {
-        Number::Refused(23)
+    let refused = size_refusal(width, height, cells.len());
+    if refused != 0 {
+        return Number::Refused(refused);
     }
+    let n = valids_in(cells);
+    Number::Is(1000 * n / (width * height))
 }
 
 // The lesser of a further number and the least: an equal one leaves the least.
@@ -206,13 +217,13 @@ pub fn range_in(cells: &[f32]) -> Range
 pub fn range_valid(width: usize, height: usize, cells: &[f32]) -> Extent
     ensures { λ r. ⌜ r ≡ validRange width height (now (cells .entry)) ⌝ }
 {
-    if size_good(width, height, cells.len()) {
-        match range_in(cells) {
-            Range::None => Extent::None,
-            Range::Span(lo, hi) => Extent::Span(lo, hi),
-        }
-    } else {
-        Extent::Refused(23)
+    let refused = size_refusal(width, height, cells.len());
+    if refused != 0 {
+        return Extent::Refused(refused);
+    }
+    match range_in(cells) {
+        Range::None => Extent::None,
+        Range::Span(lo, hi) => Extent::Span(lo, hi),
     }
 }
 

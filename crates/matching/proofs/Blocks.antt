@@ -15,18 +15,15 @@ use Rattle.lists.specs.Turned.{inRow, columnLeft, turnedCell, turned}
 use Rattle.lists.proofs.Lists.{listOf-same, listOf-at, any-default}
 use Rattle.lists.proofs.Rows.{cell-in, pixel-in, row-below, mul-pos-left}
 use Rattle.lists.proofs.Tests.{lt-or-le}
-use Rattle.options.specs.declared.RawCost.{RawCost}
 use Rattle.options.specs.declared.RawCost.the-variants.{Blank}
 use Rattle.options.specs.Costs.{rawOf}
-use Rattle.maps.specs.declared.Cell.{Cell}
 use Rattle.maps.specs.declared.Cell.the-variants.{Mark}
-use Rattle.choices.specs.declared.block.Best.{Best}
 use Rattle.choices.specs.declared.block.Best.the-variants.{Nothing}
 use Rattle.choices.specs.declared.block.Gates.{Gates}
 use Rattle.choices.specs.declared.block.Seen.{Seen}
 use Rattle.choices.specs.declared.block.Seen.the-variants.{Own, Turned}
 use Rattle.choices.specs.declared.subpixel.Search.{Search}
-use Rattle.choices.specs.Frame.{inner}
+use Rattle.options.specs.Frame.{inner}
 use Rattle.choices.specs.Block.{costsOf, better, bestOf, gated, blockChoice, blockCell, blockMap}
 use Rattle.choices.specs.Seen.{seenAs}
 

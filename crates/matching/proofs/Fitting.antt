@@ -7,11 +7,12 @@ use native.Mathlib.Nat.{mul-le-mul}
 use native.Mathlib.Omega.{arith}
 use lib.IntN.{natAbs}
 use Rattle.options.specs.Limits.{sideMost, countMost, firstMost}
+use Rattle.options.specs.Options.{usesPaths}
 use Rattle.options.specs.declared.BlockMatchOptions.{BlockMatchOptions}
 use Rattle.matching.specs.Maps.{half, countOf}
-use Rattle.matching.specs.Fit.{Fit, Counted, cellsIn, sideCells}
+use Rattle.matching.specs.Inner.{MatchFits, CountFits, cellsIn, sideCells}
 
-pub record Ready (w h : ℕ) (o : BlockMatchOptions) (outLength : ℕ) : Type 0 where
+pub record Offered (w h : ℕ) (o : BlockMatchOptions) (outLength : ℕ) : Type 0 where
   pub out : outLength ≡ w * h
   pub across : half o ≤ w
   pub down : half o ≤ h
@@ -19,10 +20,11 @@ pub record Ready (w h : ℕ) (o : BlockMatchOptions) (outLength : ℕ) : Type 0 
   pub high : h ≤ sideMost
   pub first : natAbs (o .«min_disparity») ≤ firstMost
   pub few : countOf o ≤ countMost
-  pub counted : Counted o
+  pub counted : CountFits o
 
-pub ready : {left right : List ℕ} {w h : ℕ} {o : BlockMatchOptions} {outLength wholeLength : ℕ} → Fit left right w h o outLength wholeLength → Ready w h o outLength
-ready z =
+-- what an accepted match offers
+pub offered : {left right : List ℕ} {w h : ℕ} {o : BlockMatchOptions} {outLength wholeLength : ℕ} → MatchFits left right w h o outLength wholeLength → Offered w h o outLength
+offered z =
     let s = z .volume .sizes in
     record {
       out = z .out-cells;
@@ -36,7 +38,7 @@ ready z =
     }
 
 -- the cells of a volume are few
-pub semi-sizes : {left right : List ℕ} {w h : ℕ} {o : BlockMatchOptions} {outLength wholeLength : ℕ} → Fit left right w h o outLength wholeLength
+pub semi-sizes : {left right : List ℕ} {w h : ℕ} {o : BlockMatchOptions} {outLength wholeLength : ℕ} → MatchFits left right w h o outLength wholeLength
     → (w * h ≤ sideMost * sideMost) × (cellsIn w h o ≤ countMost * (sideMost * sideMost))
 semi-sizes z =
     let s = z .volume .sizes in
@@ -44,13 +46,13 @@ semi-sizes z =
     (area, mul-le-mul (s .count-most) area)
 
 -- the same with an output and a room of the same lengths
-pub refit : {left right : List ℕ} {w h : ℕ} {o : BlockMatchOptions} {outLength outLength′ wholeLength wholeLength′ : ℕ} → Fit left right w h o outLength wholeLength
-    → outLength′ ≡ outLength → wholeLength′ ≡ wholeLength → Fit left right w h o outLength′ wholeLength′
+pub refit : {left right : List ℕ} {w h : ℕ} {o : BlockMatchOptions} {outLength outLength′ wholeLength wholeLength′ : ℕ} → MatchFits left right w h o outLength wholeLength
+    → outLength′ ≡ outLength → wholeLength′ ≡ wholeLength → MatchFits left right w h o outLength′ wholeLength′
 refit z e f = rw (e, f) z
 
 -- a side's cells begin with one volume
 pub volume-first : (w h : ℕ) (o : BlockMatchOptions) → cellsIn w h o ≤ sideCells w h o
-volume-first w h o = go (o .«semi_global»)
+volume-first w h o = go (usesPaths (o .mode))
   where
     go : (t : Bool) → cellsIn w h o ≤ cond t (3 * cellsIn w h o) (cellsIn w h o)
     go true = omega arith

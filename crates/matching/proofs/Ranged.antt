@@ -1,29 +1,28 @@
 -- The raw volume of two pictures has its cells in range, and none where a window has one pixel. Assumes nothing.
-use Prim.Native.Nat.{ℕ, zero, suc, _+_, _-_, _*_, _/_, _%_, _≤_, _<_}
+use Prim.Native.Nat.{ℕ, _+_, _-_, _*_, _/_, _%_, _≤_, _<_}
 use mathlib.Core.Path.{_≡_, refl, sym, ap, ap₂, _∙_, subst}
 use mathlib.Core.Bool.{Bool, true, false, cond}
 use mathlib.Core.List.{List}
 use native.Mathlib.Omega.{arith}
 use borrow.Author.Tests.{eq-eqb}
 use lib.IntN.{ℤ, pos, negsuc, _+ℤ_}
-use lib.Ieee.{Float, nan, inf}
-use lib.ListN.{length, getD}
+use lib.Ieee.{nan}
 use Rattle.lists.specs.Rows.{levelAt}
 use Rattle.lists.proofs.Tests.{of-all}
 use Rattle.lists.proofs.Lists.{listOf-length, listOf-at}
 use Rattle.options.specs.Limits.{blockMost}
-use Rattle.options.specs.Costs.{stored, rawOf, InRange}
+use Rattle.options.specs.Costs.{stored, InRange}
 use Rattle.options.specs.declared.BlockMatchOptions.{BlockMatchOptions}
-use Rattle.options.specs.declared.RawCost.{RawCost}
 use Rattle.options.specs.declared.RawCost.the-variants.{Blank}
 use Rattle.options.specs.declared.Side.{Side}
 use Rattle.options.proofs.Stored.{stored-back}
-use Rattle.costs.specs.Raw.{within, inFrame, shiftOf, referenceOf, targetOf, oneLevel, pairCost, targetCost, shiftedCost, rawCost}
+use Rattle.options.specs.Frame.{within, inFrame}
+use Rattle.costs.specs.Raw.{shiftOf, referenceOf, targetOf, oneLevel, pairCost, targetCost, shiftedCost, rawCost}
 use Rattle.costs.specs.Rooms.{Picture}
 use Rattle.costs.specs.Volume.{rawVolume}
 use Rattle.costs.proofs.Laws.{raw-cost-bound}
-use Rattle.matching.specs.Maps.{half, countOf, volumeOf}
-use Rattle.matching.specs.Fit.{cellsIn, Ranged}
+use Rattle.matching.specs.Maps.{half, volumeOf}
+use Rattle.matching.specs.Inner.{cellsIn, VolumeRanged}
 
 -- ---- a window of one pixel shows one level
 one-pixel : (w : ℕ) (a : List ℕ) (x y : ℕ) → oneLevel w a x y 0 ≡ true
@@ -54,7 +53,7 @@ raw-blank side w h first left right x y k =
 
 -- ---- the volume
 pub ranged : {w h : ℕ} {o : BlockMatchOptions} {left right : List ℕ} → half o ≤ blockMost / 2 → Picture w h left → Picture w h right
-    → (side : Side) → Ranged w h o (volumeOf w h o side left right)
+    → (side : Side) → VolumeRanged w h o (volumeOf w h o side left right)
 unfolding rawVolume
 ranged {w} {h} {o} {left} {right} few pl pr side = record {
   long = listOf-length (cellsIn w h o) _;

@@ -1,7 +1,7 @@
 -- What holds of every accepted match: raw costs, path costs and sums lie in their ranges, and what is chosen is the largest or the least. Assumes nothing.
-use Prim.Native.Nat.{ℕ, _+_, _*_, _/_, _%_, _≤_, _<_}
-use mathlib.Core.Path.{_≡_, refl, sym, ap, _∙_, subst}
-use mathlib.Core.Bool.{Bool, true, false, not, _&&_}
+use Prim.Native.Nat.{ℕ, _+_, _*_, _<_}
+use mathlib.Core.Path.{_≡_, sym, subst}
+use mathlib.Core.Bool.{true}
 use mathlib.Core.List.{List, [], _∷_}
 use native.Mathlib.Nat.{mul-comm, le-refl}
 use native.Mathlib.Omega.{arith}
@@ -9,20 +9,19 @@ use borrow.Author.Tests.{not-false}
 use lib.Dec.{T}
 use lib.IntN.{ℤ}
 use lib.Ieee.{Float, nan}
-use lib.Ieee.Scale.{finite}
 use lib.ListN.{length, getD}
 use Rattle.lists.proofs.Tests.{and-both}
 use Rattle.lists.proofs.Rows.{cell-in}
 use Rattle.lists.proofs.Lists.{listOf-length, listOf-at}
 use Rattle.options.specs.Limits.{isPenalty}
 use Rattle.options.specs.Costs.{rawOf, InRange}
+use Rattle.options.specs.Options.{usesPaths}
 use Rattle.options.specs.declared.BlockMatchOptions.{BlockMatchOptions}
 use Rattle.options.specs.declared.RawCost.{RawCost}
 use Rattle.options.specs.declared.RawCost.the-variants.{Blank}
 use Rattle.options.specs.declared.Side.{Side}
-use Rattle.refusals.specs.declared.Call.{Call}
-use Rattle.refusals.specs.Accepted as refusals
-use Rattle.refusals.proofs.Rows.{accepted}
+use Rattle.calls.specs.Accepted.{Accepted}
+use Rattle.calls.proofs.Rows.{accepted}
 use Rattle.choices.specs.Block.{costsOf, bestOf, away, competitor}
 use Rattle.choices.specs.SemiGlobal.{sumsOf, leastOf}
 use Rattle.choices.specs.Extremes.{AllInRange, AllFinite, Finds, Smallest}
@@ -30,15 +29,15 @@ use Rattle.choices.proofs.Largest.{best-largest, competitor-largest}
 use Rattle.choices.proofs.Smallest.{least-smallest}
 use Rattle.paths.specs.Bounds.{UpTo, All}
 use Rattle.paths.specs.Cost.{matchingCosts}
-use Rattle.paths.specs.Walk.{Direction, walkAlong, pathVolume, pathSums}
+use Rattle.paths.specs.Walk.{Direction, walkAlong, pathVolume}
 use Rattle.paths.proofs.Ranges.{path-costs-range, path-sums-range, path-sums-finite}
-use Rattle.matching.specs.Maps.{half, countOf, volumeOf, sumsFrom}
+use Rattle.matching.specs.Maps.{countOf, volumeOf, sumsFrom}
 use Rattle.matching.specs.Outcome.{matchCall}
 use Rattle.matching.specs.Accepted.{AcceptedMatch}
 use Rattle.matching.proofs.Ranged.{ranged}
 
 module _ {w h : ℕ} {o : BlockMatchOptions} {left right : List ℕ} (m : AcceptedMatch w h o left right) where
-  sizes : refusals.Accepted (matchCall left w h right w h o (m .pair .out) (m .pair .whole) (m .pair .float))
+  sizes : Accepted (matchCall left w h right w h o (m .pair .out) (m .pair .whole) (m .pair .float))
   sizes = accepted _ (m .pair .accepted)
 
   -- THEOREM: every cell of either side's raw volume is blank or lies from -1 to 1
@@ -67,7 +66,7 @@ module _ {w h : ℕ} {o : BlockMatchOptions} {left right : List ℕ} (m : Accept
   competitor-is-largest side p k l = competitor-largest k (costsAt side p) (pixel-range side p l)
 
   -- ---- semi-global mode
-  module _ (semi : o .«semi_global» ≡ true) where
+  module _ (semi : usesPaths (o .mode) ≡ true) where
     penalties : (isPenalty (o .«sgm_p1») ≡ true) × (isPenalty (o .«sgm_p2») ≡ true)
     penalties = and-both _ _ (not-false _ (rw semi at (sizes .penalties)))
 

@@ -1,5 +1,5 @@
 -- The matching costs and their path sums in a room of three volumes. Assumes nothing.
-use Prim.Native.Nat.{ℕ, _+_, _*_, _≤_, _<_}
+use Prim.Native.Nat.{ℕ, _+_, _*_, _≤_}
 use mathlib.Core.Path.{_≡_, sym, ap, _∙_}
 use mathlib.Core.List.{List}
 use mathlib.Core.Logic.{inl, inr}
@@ -7,13 +7,12 @@ use native.Mathlib.Nat.{mul-comm, mul-le-mul}
 use native.Mathlib.Omega.{arith}
 use lib.Ieee.{Float}
 use lib.ListN.{length}
-use Rattle.lists.specs.Lists.{listOf}
 use Rattle.lists.proofs.Lists.{listOf-length}
 use Rattle.options.specs.Limits.{sideMost, countMost}
 use Rattle.paths.specs.Cost.{matchingCosts}
 use Rattle.paths.specs.Room.{run, put, Runs, Room}
 use Rattle.paths.proofs.Parts.{length-put, run-put}
-use Rattle.matching.specs.Fit.{ThreeVolumes}
+use Rattle.matching.specs.Inner.{ThreeVolumes}
 
 pub costs-length : (area count : ℕ) (volume : List Float) → length (matchingCosts area count volume) ≡ area * count
 unfolding matchingCosts

@@ -1,7 +1,7 @@
 -- A room of three volumes of M cells, of which the third is lent and put back. Assumes nothing.
-use Prim.Native.Nat.{ℕ, _+_, _*_, _-_, _≤_}
-use mathlib.Core.Path.{_≡_, refl, sym, ap, _∙_, subst}
-use mathlib.Core.List.{List, _++_, map}
+use Prim.Native.Nat.{ℕ, _*_, _-_, _≤_}
+use mathlib.Core.Path.{_≡_, sym, ap, _∙_}
+use mathlib.Core.List.{List, map}
 use native.Mathlib.Nat.{mul-comm}
 use native.Mathlib.Omega.{arith}
 use borrow.Rule.Slice.PartMut.{putMid}
@@ -19,7 +19,7 @@ use Rattle.paths.specs.Cost.{matchingCosts}
 use Rattle.paths.specs.Room.{run}
 use Rattle.paths.specs.Walk.{pathSums}
 use Rattle.matching.specs.Maps.{half, countOf, searchOf, volumeOf, sumsFrom}
-use Rattle.matching.specs.Fit.{cellsIn}
+use Rattle.matching.specs.Inner.{cellsIn}
 
 pub volume-length : (w h : ℕ) (o : BlockMatchOptions) (side : Side) (left right : List ℕ) → length (volumeOf w h o side left right) ≡ cellsIn w h o
 unfolding rawVolume

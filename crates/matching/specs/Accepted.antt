@@ -6,7 +6,7 @@ use lib.Dec.{T}
 use lib.ListN.{getD}
 use lib.Ieee.{binary32, fits}
 use Rattle.options.specs.declared.BlockMatchOptions.{BlockMatchOptions}
-use Rattle.refusals.specs.Refusals.{refusal}
+use Rattle.calls.specs.Refusals.{refusal}
 use Rattle.matching.specs.Outcome.{matchCall}
 
 -- a picture's levels are 0 to 255

@@ -1,5 +1,5 @@
--- The definitions that the contracts of `matching` cite: `Maps` and `Outcome` are what a reader must believe, `Fit` is cited by inner functions only.
+-- The definitions that the contracts of `matching` cite: `Maps`, `Outcome` and `Accepted` are what a reader must believe, `Inner` is cited by inner functions only.
 pub mod Maps
 pub mod Outcome
 pub mod Accepted
-pub mod Fit
+pub mod Inner

@@ -5,6 +5,8 @@ use mathlib.Core.List.{List, map}
 use lib.IntN.{natAbs}
 use lib.Ieee.{Float}
 use Rattle.options.specs.declared.BlockMatchOptions.{BlockMatchOptions}
+use Rattle.options.specs.declared.Mode.{Mode}
+use Rattle.options.specs.declared.Mode.the-variants.{Block, SemiGlobal}
 use Rattle.options.specs.declared.Side.{Side}
 use Rattle.options.specs.declared.Side.the-variants.{Left, Right}
 use Rattle.costs.specs.Volume.{rawVolume}
@@ -42,16 +44,14 @@ volumeOf w h o side left right = rawVolume side w h (half o) (o .«min_disparity
 abbrev pub sumsFrom : ℕ → ℕ → BlockMatchOptions → List Float → List Float
 sumsFrom w h o volume = pathSums w h (countOf o) (o .«sgm_p1») (o .«sgm_p2») (matchingCosts (w * h) (countOf o) volume)
 
--- the cells chosen from one side's raw volume: by path sums in semi-global mode, else by the raw costs themselves
-abbrev pub chosen : ℕ → ℕ → BlockMatchOptions → List Float → List Cell
-chosen w h o volume =
-    cond (o .«semi_global»)
-    (semiMap w h (half o) (searchOf o) (sumsFrom w h o volume))
-    (blockMap w h (half o) (searchOf o) (gatesOf o) volume)
+-- the cells chosen from one side's raw volume in a mode: by the raw costs themselves, or by path sums
+abbrev pub chosenIn : Mode → ℕ → ℕ → BlockMatchOptions → List Float → List Cell
+chosenIn Block w h o volume = blockMap w h (half o) (searchOf o) (gatesOf o) volume
+chosenIn SemiGlobal w h o volume = semiMap w h (half o) (searchOf o) (sumsFrom w h o volume)
 
 -- the map made from one side, as it lies in a float buffer
 abbrev pub sideMap : ℕ → ℕ → BlockMatchOptions → List Float → List Float
-sideMap w h o volume = map inBuffer (chosen w h o volume)
+sideMap w h o volume = map inBuffer (chosenIn (o .mode) w h o volume)
 
 -- the left map, after the left-right test against the right map where that is on
 abbrev pub tested : ℕ → BlockMatchOptions → List Float → List Float → List Float

@@ -1,5 +1,5 @@
 -- The outcome of a match. Definitions only.
-use Prim.Native.Nat.{ℕ, zero, suc}
+use Prim.Native.Nat.{ℕ}
 use mathlib.Core.Path.{_≡_}
 use mathlib.Core.Bool.{false}
 use mathlib.Core.List.{List}
@@ -8,9 +8,10 @@ use lib.ListN.{length}
 use lib.Ieee.{Float, fin}
 use Rattle.lists.specs.Lists.{cleared}
 use Rattle.options.specs.declared.BlockMatchOptions.{BlockMatchOptions}
-use Rattle.refusals.specs.declared.Call.{Call}
-use Rattle.refusals.specs.declared.Output.the-variants.{Map}
-use Rattle.refusals.specs.Refusals.{refusal, wholeCells, floatCells}
+use Rattle.refusals.specs.Outcome.{after}
+use Rattle.calls.specs.declared.Call.{Call}
+use Rattle.calls.specs.declared.Output.the-variants.{Map}
+use Rattle.calls.specs.Refusals.{refusal, wholeCells, floatCells}
 use Rattle.matching.specs.Maps.{mapOf}
 
 -- what is asked for and lent
@@ -26,7 +27,7 @@ matchCall left w h right w′ h′ o outLength wholeLength floatLength = record 
   first = o .«min_disparity»;
   count = o .«num_disparities»;
   block = o .«block_size»;
-  «semi_global» = o .«semi_global»;
+  mode = o .mode;
   p1 = o .«sgm_p1»;
   p2 = o .«sgm_p2»;
   «out_len» = outLength;
@@ -34,24 +35,9 @@ matchCall left w h right w′ h′ o outLength wholeLength floatLength = record 
   «float_len» = floatLength;
 }
 
--- THE OUTPUT afterwards: the map, and after a refusal as it was
-unfoldable pub outAfter : ℕ → ℕ → ℕ → BlockMatchOptions → List ℕ → List ℕ → List Float → List Float
-outAfter zero w h o left right out = mapOf w h o left right
-outAfter (suc n) w h o left right out = out
-
--- THE WHOLE-NUMBER ROOM afterwards: zero in the cells that were needed, and after a refusal as it was
-unfoldable pub wholeAfter : ℕ → Call → List ℕ → List ℕ
-wholeAfter zero q room = cleared 0 (wholeCells q) room
-wholeAfter (suc n) q room = room
-
--- THE FLOAT ROOM afterwards: zero in the cells that were needed, and after a refusal as it was
-unfoldable pub floatAfter : ℕ → Call → List Float → List Float
-floatAfter zero q room = cleared (fin false 0 (pos 0)) (floatCells q Map) room
-floatAfter (suc n) q room = room
-
--- THE OUTCOME of a match: the answer n, the output and the two rooms afterwards
-pub record MatchDone (n : ℕ) (q : Call) (o : BlockMatchOptions) (left right : List ℕ) (out out′ : List Float) (whole whole′ : List ℕ) (float float′ : List Float) : Type 0 where
+-- THE OUTCOME of a match: the answer n; the output, which is the map; and the two rooms, zero in the cells that were needed; after a refusal all as it was
+pub record MatchOutcome (n : ℕ) (q : Call) (o : BlockMatchOptions) (left right : List ℕ) (out out′ : List Float) (whole whole′ : List ℕ) (float float′ : List Float) : Type 0 where
   pub answer : n ≡ refusal q
-  pub output : out′ ≡ outAfter n (q .«left_w») (q .«left_h») o left right out
-  pub wholes : whole′ ≡ wholeAfter n q whole
-  pub floats : float′ ≡ floatAfter n q float
+  pub output : out′ ≡ after n (mapOf (q .«left_w») (q .«left_h») o left right) out
+  pub wholes : whole′ ≡ after n (cleared 0 (wholeCells q) whole) whole
+  pub floats : float′ ≡ after n (cleared (fin false 0 (pos 0)) (floatCells q Map) float) float

@@ -1,7 +1,6 @@
 // Block choice for a match that is accepted: the map of a raw volume as its own picture sees it, or as the other does.
 ghost use mathlib.Core.Path.{_≡_};
 ghost use mathlib.Core.List.{map};
-ghost use Prim.Native.Nat.{_*_};
 ghost use lib.ListN.{length};
 ghost use Rattle.lists.specs.Lists.{listOf};
 ghost use Rattle.maps.specs.Cells.{inBuffer};
@@ -9,7 +8,7 @@ ghost use Rattle.maps.specs.declared.Cell.the-variants.{Mark};
 ghost use Rattle.choices.specs.Block.{blockMap};
 ghost use Rattle.choices.specs.Seen.{seenAs};
 ghost use Rattle.matching.specs.Maps.{half, searchOf, gatesOf};
-ghost use Rattle.matching.specs.Fit.{Counted, Sized, Ranged};
+ghost use Rattle.matching.specs.Inner.{CountFits, MapSizes, VolumeRanged};
 use choices::block::Gates;
 use choices::block::Seen;
 use choices::block::select_block;
@@ -20,7 +19,7 @@ use options::BlockMatchOptions;
 
 // What is searched.
 pub fn search_of(opts: BlockMatchOptions) -> Search
-    requires { ⌜ Counted opts ⌝ }
+    requires { ⌜ CountFits opts ⌝ }
     ensures { λ s. ⌜ s ≡ searchOf opts ⌝ }
 {
     Search {
@@ -46,7 +45,7 @@ pub fn choose_block(
     opts: BlockMatchOptions,
     seen: Seen,
 )
-    requires { ⌜ Sized w h opts (length (now out)) × Ranged w h opts (now raw) ⌝ }
+    requires { ⌜ MapSizes w h opts (length (now out)) × VolumeRanged w h opts (now raw) ⌝ }
     ensures { λ _. ⌜ now (out .exit) ≡ map inBuffer (blockMap w h (half opts) (searchOf opts) (gatesOf opts) (seenAs seen w h (searchOf opts) (now (raw .entry)))) ⌝ }
 {
     let r = opts.block_size / 2;

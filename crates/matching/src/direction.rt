@@ -1,27 +1,20 @@
 // The map made from one side, and the one made from what stays of the other's, for a match that is accepted.
 ghost use mathlib.Core.Path.{_≡_};
-ghost use mathlib.Core.Bool.{true};
-ghost use mathlib.Core.List.{List, map};
-ghost use Prim.Native.Nat.{ℕ, _*_};
-ghost use lib.ListN.{length, take};
-ghost use Rattle.lists.specs.Lists.{cleared};
-ghost use Rattle.options.specs.declared.Side.the-variants.{Left};
-ghost use Rattle.windows.specs.Window.{cells};
-ghost use Rattle.maps.specs.Cells.{inBuffer};
-ghost use Rattle.choices.specs.Block.{blockMap};
-ghost use Rattle.choices.specs.SemiGlobal.{semiMap};
+ghost use Prim.Native.Nat.{_*_};
+ghost use lib.ListN.{length};
+ghost use Rattle.options.specs.declared.Mode.the-variants.{Block, SemiGlobal};
 ghost use Rattle.paths.specs.Bounds.{Bounded};
-ghost use Rattle.paths.specs.Cost.{matchingCosts, turnedCosts, Turnable};
+ghost use Rattle.paths.specs.Cost.{turnedCosts, Turnable};
 ghost use Rattle.paths.specs.Room.{run};
 ghost use Rattle.paths.specs.Walk.{pathSums};
-ghost use Rattle.matching.specs.Maps.{half, countOf, searchOf, gatesOf, volumeOf, sumsFrom, sideMap};
-ghost use Rattle.matching.specs.Fit.{Fit, ThreeVolumes, cellsIn, sideCells, keptOf, Kept, Turning};
+ghost use Rattle.matching.specs.Inner.{ThreeVolumes, SumsRoom, SumsMade, SideRoom, SideMade, TurningRoom, LeftMade};
 use crate::block::choose_block;
 use crate::block::search_of;
 use choices::block::Seen;
 use choices::semi_global::select_sgm;
 use costs::volume::volume_of;
 use options::BlockMatchOptions;
+use options::Mode;
 use options::Side;
 use paths::cost::Turn;
 use paths::cost::fill_costs;
@@ -40,8 +33,9 @@ fn solve_block(
     whole: &mut [u64],
     room: &mut [f32],
 )
-    requires { ⌜ Fit (now left) (now right) w h opts (length (now out)) (length (now whole)) × (length (now room) ≡ cellsIn w h opts) ⌝ }
-    ensures { λ _. ⌜ (now (out .exit) ≡ map inBuffer (blockMap w h (half opts) (searchOf opts) (gatesOf opts) (volumeOf w h opts side (now (left .entry)) (now (right .entry))))) × (now (whole .exit) ≡ cleared 0 (5 * cells w h) (now (whole .entry))) × (now (room .exit) ≡ volumeOf w h opts side (now (left .entry)) (now (right .entry))) ⌝ }
+    requires { ⌜ SideRoom (now left) (now right) w h opts (length (now out)) (length (now whole)) (length (now room)) ⌝ }
+    requires { ⌜ opts .mode ≡ Block ⌝ }
+    ensures { λ _. ⌜ SideMade w h opts side (now (left .entry)) (now (right .entry)) (now (out .exit)) (now (whole .entry)) (now (whole .exit)) (now (room .exit)) ⌝ }
 {
     volume_of(left, right, w, h, opts, side, room, whole);
     choose_block(out, room, w, h, opts, Seen::Own);
@@ -50,8 +44,8 @@ fn solve_block(
 // In a room of three volumes, the raw volume in the third: the matching costs go to the first and stay there, their path sums
 // go to the second, and the path costs take the place of the raw volume.
 fn sum_paths(room: &mut [f32], w: usize, h: usize, count: usize, p1: f32, p2: f32)
-    requires { ⌜ ThreeVolumes (length (now room)) w h count × Bounded p1 p2 (matchingCosts (w * h) count (run (count * (w * h)) (2 * (count * (w * h))) (now room))) ⌝ }
-    ensures { λ _. ⌜ (let c = matchingCosts (w * h) count (run (count * (w * h)) (2 * (count * (w * h))) (now (room .entry))) in (run (count * (w * h)) (count * (w * h)) (now (room .exit)) ≡ pathSums w h count p1 p2 c) × (run (count * (w * h)) 0 (now (room .exit)) ≡ c)) ⌝ }
+    requires { ⌜ SumsRoom w h count p1 p2 (now room) ⌝ }
+    ensures { λ _. ⌜ SumsMade w h count p1 p2 (now (room .entry)) (now (room .exit)) ⌝ }
 {
     let area = w * h;
     let one = count * area;
@@ -87,8 +81,9 @@ fn solve_semi_global(
     whole: &mut [u64],
     room: &mut [f32],
 )
-    requires { ⌜ Fit (now left) (now right) w h opts (length (now out)) (length (now whole)) × (length (now room) ≡ 3 * cellsIn w h opts) × (opts .«semi_global» ≡ true) ⌝ }
-    ensures { λ _. ⌜ (now (out .exit) ≡ map inBuffer (semiMap w h (half opts) (searchOf opts) (sumsFrom w h opts (volumeOf w h opts side (now (left .entry)) (now (right .entry)))))) × (now (whole .exit) ≡ cleared 0 (5 * cells w h) (now (whole .entry))) × (take (cellsIn w h opts) (now (room .exit)) ≡ matchingCosts (w * h) (countOf opts) (volumeOf w h opts side (now (left .entry)) (now (right .entry)))) ⌝ }
+    requires { ⌜ SideRoom (now left) (now right) w h opts (length (now out)) (length (now whole)) (length (now room)) ⌝ }
+    requires { ⌜ opts .mode ≡ SemiGlobal ⌝ }
+    ensures { λ _. ⌜ SideMade w h opts side (now (left .entry)) (now (right .entry)) (now (out .exit)) (now (whole .entry)) (now (whole .exit)) (now (room .exit)) ⌝ }
 {
     let search = search_of(opts);
     let count = search.count;
@@ -112,20 +107,21 @@ pub fn solve_direction(
     whole: &mut [u64],
     room: &mut [f32],
 )
-    requires { ⌜ Fit (now left) (now right) w h opts (length (now out)) (length (now whole)) × (length (now room) ≡ sideCells w h opts) ⌝ }
-    ensures { λ _. ⌜ (now (out .exit) ≡ sideMap w h opts (volumeOf w h opts side (now (left .entry)) (now (right .entry)))) × (now (whole .exit) ≡ cleared 0 (5 * cells w h) (now (whole .entry))) × (take (cellsIn w h opts) (now (room .exit)) ≡ keptOf w h opts (volumeOf w h opts side (now (left .entry)) (now (right .entry)))) ⌝ }
+    requires { ⌜ SideRoom (now left) (now right) w h opts (length (now out)) (length (now whole)) (length (now room)) ⌝ }
+    ensures { λ _. ⌜ SideMade w h opts side (now (left .entry)) (now (right .entry)) (now (out .exit)) (now (whole .entry)) (now (whole .exit)) (now (room .exit)) ⌝ }
 {
-    if opts.semi_global {
-        solve_semi_global(left, right, w, h, opts, side, out, whole, room);
-    } else {
-        solve_block(left, right, w, h, opts, side, out, whole, room);
+    let mode = opts.mode;
+    match mode {
+        Mode::Block => solve_block(left, right, w, h, opts, side, out, whole, room),
+        Mode::SemiGlobal => solve_semi_global(left, right, w, h, opts, side, out, whole, room),
     }
 }
 
 // The left map by path sums, from the right picture's matching costs in the first volume.
 fn turn_semi_global(out: &mut [f32], room: &mut [f32], w: usize, h: usize, opts: BlockMatchOptions)
-    requires { ⌜ Turning w h opts (length (now out)) (now room) × (length (now room) ≡ 3 * cellsIn w h opts) × (opts .«semi_global» ≡ true) ⌝ }
-    ensures { λ _. ⌜ ((left right : List ℕ) → Kept left right w h opts (now (room .entry)) → now (out .exit) ≡ map inBuffer (semiMap w h (half opts) (searchOf opts) (sumsFrom w h opts (volumeOf w h opts Left left right)))) ⌝ }
+    requires { ⌜ TurningRoom w h opts (length (now out)) (now room) ⌝ }
+    requires { ⌜ opts .mode ≡ SemiGlobal ⌝ }
+    ensures { λ _. ⌜ LeftMade w h opts (now (room .entry)) (now (out .exit)) ⌝ }
 {
     let search = search_of(opts);
     let count = search.count;
@@ -148,12 +144,12 @@ pub fn turn_direction(
     h: usize,
     opts: BlockMatchOptions,
 )
-    requires { ⌜ Turning w h opts (length (now out)) (now room) × (length (now room) ≡ sideCells w h opts) ⌝ }
-    ensures { λ _. ⌜ ((left right : List ℕ) → Kept left right w h opts (now (room .entry)) → now (out .exit) ≡ sideMap w h opts (volumeOf w h opts Left left right)) ⌝ }
+    requires { ⌜ TurningRoom w h opts (length (now out)) (now room) ⌝ }
+    ensures { λ _. ⌜ LeftMade w h opts (now (room .entry)) (now (out .exit)) ⌝ }
 {
-    if opts.semi_global {
-        turn_semi_global(out, room, w, h, opts);
-    } else {
-        choose_block(out, room, w, h, opts, Seen::Turned);
+    let mode = opts.mode;
+    match mode {
+        Mode::Block => choose_block(out, room, w, h, opts, Seen::Turned),
+        Mode::SemiGlobal => turn_semi_global(out, room, w, h, opts),
     }
 }

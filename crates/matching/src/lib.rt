@@ -1,9 +1,9 @@
 // Matching two pictures: the block map, the semi-global map, and the left-right test (document 01).
 ghost use lib.ListN.{length};
-ghost use Rattle.matching.specs.Outcome.{matchCall, MatchDone};
+ghost use Rattle.matching.specs.Outcome.{matchCall, MatchOutcome};
+use calls::Call;
+use calls::Output;
 use options::BlockMatchOptions;
-use refusals::Call;
-use refusals::Output;
 
 pub mod block;
 mod direction;
@@ -23,8 +23,9 @@ pub fn match_block(
     whole_room: &mut [u64],
     float_room: &mut [f32],
 ) -> u32
-    ensures { λ n. ⌜ MatchDone n (matchCall (now (left .entry)) «left_w» «left_h» (now (right .entry)) «right_w» «right_h» opts (length (now (out .entry))) (length (now («whole_room» .entry))) (length (now («float_room» .entry)))) opts (now (left .entry)) (now (right .entry)) (now (out .entry)) (now (out .exit)) (now («whole_room» .entry)) (now («whole_room» .exit)) (now («float_room» .entry)) (now («float_room» .exit)) ⌝ }
+    ensures { λ n. ⌜ MatchOutcome n (matchCall (now (left .entry)) «left_w» «left_h» (now (right .entry)) «right_w» «right_h» opts (length (now (out .entry))) (length (now («whole_room» .entry))) (length (now («float_room» .entry)))) opts (now (left .entry)) (now (right .entry)) (now (out .entry)) (now (out .exit)) (now («whole_room» .entry)) (now («whole_room» .exit)) (now («float_room» .entry)) (now («float_room» .exit)) ⌝ }
 {
+    let mode = opts.mode;
     let call = Call {
         output: Output::Map,
         left_w,
@@ -36,18 +37,18 @@ pub fn match_block(
         first: opts.min_disparity,
         count: opts.num_disparities,
         block: opts.block_size,
-        semi_global: opts.semi_global,
+        mode,
         p1: opts.sgm_p1,
         p2: opts.sgm_p2,
         out_len: out.len(),
         whole_len: whole_room.len(),
         float_len: float_room.len(),
     };
-    let refused = refusals::refusal(call);
+    let refused = calls::refusal(call);
     if refused != 0 {
         return refused;
     }
-    let needed = refusals::float_cells(call);
+    let needed = calls::float_cells(call);
     solve::solve(
         left,
         right,

@@ -1,17 +1,9 @@
 // Both sides' maps and the left-right test, for a match that is accepted.
-ghost use mathlib.Core.Path.{_≡_};
-ghost use mathlib.Core.Bool.{false};
-ghost use Prim.Native.Nat.{ℕ, _+_, _*_};
-ghost use lib.IntN.{pos};
-ghost use lib.Ieee.{fin};
-ghost use mathlib.Core.List.{List};
-ghost use lib.ListN.{length, take, drop, replicate};
-ghost use Rattle.lists.specs.Lists.{cleared};
+ghost use lib.ListN.{length};
 ghost use Rattle.options.specs.declared.Side.the-variants.{Left, Right};
-ghost use Rattle.windows.specs.Window.{cells};
 ghost use Rattle.choices.specs.LeftRight.{leftRight};
 ghost use Rattle.matching.specs.Maps.{volumeOf, sideMap, mapOf};
-ghost use Rattle.matching.specs.Fit.{Fit, cellsIn, sideCells, keptOf, Kept, Turning};
+ghost use Rattle.matching.specs.Inner.{MatchRoom, MapMade, RightMade, TestingRoom, LeftTested};
 use crate::direction::solve_direction;
 use crate::direction::turn_direction;
 use choices::left_right::left_right;
@@ -31,8 +23,8 @@ fn solve_left(
     whole: &mut [u64],
     room: &mut [f32],
 )
-    requires { ⌜ Fit (now left) (now right) w h opts (length (now out)) (length (now whole)) × (length (now room) ≡ sideCells w h opts + w * h) ⌝ }
-    ensures { λ _. ⌜ (now (out .exit) ≡ sideMap w h opts (volumeOf w h opts Left (now (left .entry)) (now (right .entry)))) × (now (whole .exit) ≡ cleared 0 (5 * cells w h) (now (whole .entry))) × (now (room .exit) ≡ replicate (length (now (room .entry))) (fin false 0 (pos 0))) ⌝ }
+    requires { ⌜ MatchRoom (now left) (now right) w h opts (length (now out)) (length (now whole)) (length (now room)) ⌝ }
+    ensures { λ _. ⌜ MapMade w h (sideMap w h opts (volumeOf w h opts Left (now (left .entry)) (now (right .entry)))) (now (out .exit)) (now (whole .entry)) (now (whole .exit)) (now (room .entry)) (now (room .exit)) ⌝ }
 {
     let kept = room.len() - w * h;
     solve_direction(
@@ -61,8 +53,8 @@ fn keep_right(
     whole: &mut [u64],
     room: &mut [f32],
 )
-    requires { ⌜ Fit (now left) (now right) w h opts (length (now out)) (length (now whole)) × (length (now room) ≡ sideCells w h opts + w * h) ⌝ }
-    ensures { λ _. ⌜ (drop (sideCells w h opts) (now (room .exit)) ≡ sideMap w h opts (volumeOf w h opts Right (now (left .entry)) (now (right .entry)))) × (now (whole .exit) ≡ cleared 0 (5 * cells w h) (now (whole .entry))) × (take (cellsIn w h opts) (now (room .exit)) ≡ keptOf w h opts (volumeOf w h opts Right (now (left .entry)) (now (right .entry)))) ⌝ }
+    requires { ⌜ MatchRoom (now left) (now right) w h opts (length (now out)) (length (now whole)) (length (now room)) ⌝ }
+    ensures { λ _. ⌜ RightMade w h opts (now (left .entry)) (now (right .entry)) (now (whole .entry)) (now (whole .exit)) (now (room .exit)) ⌝ }
 {
     let end = room.len();
     let kept = end - w * h;
@@ -83,8 +75,8 @@ fn keep_right(
 // The left map, from what stays of the right picture's raw costs, tested against the right map that was kept in the room, which
 // is zero afterwards.
 fn test_left(out: &mut [f32], room: &mut [f32], w: usize, h: usize, opts: BlockMatchOptions)
-    requires { ⌜ Turning w h opts (length (now out)) (now room) × (length (now room) ≡ sideCells w h opts + w * h) ⌝ }
-    ensures { λ _. ⌜ ((left right : List ℕ) → Kept left right w h opts (now (room .entry)) → now (out .exit) ≡ leftRight w (opts .«lr_max_diff») (sideMap w h opts (volumeOf w h opts Left left right)) (drop (sideCells w h opts) (now (room .entry)))) × (now (room .exit) ≡ replicate (length (now (room .entry))) (fin false 0 (pos 0))) ⌝ }
+    requires { ⌜ TestingRoom w h opts (length (now out)) (now room) ⌝ }
+    ensures { λ _. ⌜ LeftTested w h opts (now (room .entry)) (now (out .exit)) (now (room .exit)) ⌝ }
 {
     let end = room.len();
     let kept = end - w * h;
@@ -104,8 +96,8 @@ fn solve_both(
     whole: &mut [u64],
     room: &mut [f32],
 )
-    requires { ⌜ Fit (now left) (now right) w h opts (length (now out)) (length (now whole)) × (length (now room) ≡ sideCells w h opts + w * h) ⌝ }
-    ensures { λ _. ⌜ (now (out .exit) ≡ leftRight w (opts .«lr_max_diff») (sideMap w h opts (volumeOf w h opts Left (now (left .entry)) (now (right .entry)))) (sideMap w h opts (volumeOf w h opts Right (now (left .entry)) (now (right .entry))))) × (now (whole .exit) ≡ cleared 0 (5 * cells w h) (now (whole .entry))) × (now (room .exit) ≡ replicate (length (now (room .entry))) (fin false 0 (pos 0))) ⌝ }
+    requires { ⌜ MatchRoom (now left) (now right) w h opts (length (now out)) (length (now whole)) (length (now room)) ⌝ }
+    ensures { λ _. ⌜ MapMade w h (leftRight w (opts .«lr_max_diff») (sideMap w h opts (volumeOf w h opts Left (now (left .entry)) (now (right .entry)))) (sideMap w h opts (volumeOf w h opts Right (now (left .entry)) (now (right .entry))))) (now (out .exit)) (now (whole .entry)) (now (whole .exit)) (now (room .entry)) (now (room .exit)) ⌝ }
 {
     keep_right(left, right, w, h, opts, out, whole, room);
     test_left(out, room, w, h, opts);
@@ -122,8 +114,8 @@ pub fn solve(
     whole: &mut [u64],
     room: &mut [f32],
 )
-    requires { ⌜ Fit (now left) (now right) w h opts (length (now out)) (length (now whole)) × (length (now room) ≡ sideCells w h opts + w * h) ⌝ }
-    ensures { λ _. ⌜ (now (out .exit) ≡ mapOf w h opts (now (left .entry)) (now (right .entry))) × (now (whole .exit) ≡ cleared 0 (5 * cells w h) (now (whole .entry))) × (now (room .exit) ≡ replicate (length (now (room .entry))) (fin false 0 (pos 0))) ⌝ }
+    requires { ⌜ MatchRoom (now left) (now right) w h opts (length (now out)) (length (now whole)) (length (now room)) ⌝ }
+    ensures { λ _. ⌜ MapMade w h (mapOf w h opts (now (left .entry)) (now (right .entry))) (now (out .exit)) (now (whole .entry)) (now (whole .exit)) (now (room .entry)) (now (room .exit)) ⌝ }
 {
     if opts.lr_consistency {
         solve_both(left, right, w, h, opts, out, whole, room);

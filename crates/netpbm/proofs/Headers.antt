@@ -12,12 +12,12 @@ use lib.Seq.{drop-cons, drop-drop}
 use lib.Dec.{eqb}
 use borrow.Author.Tests.{lt-ltb, le-ltb, le-leb, lt-leb, eq-eqb, ne-eqb}
 use Rattle.lists.proofs.Tests.{and-both, lt-or-le}
-use Rattle.lists.specs.Steps.{Or, refused}
+use Rattle.refusals.specs.Steps.{Or, refused, Taken}
 use Rattle.texts.specs.Digits.{isDigit, allDigits, decimalFrom}
 use Rattle.netpbm.specs.declared.header.Found.{Found}
 use Rattle.netpbm.specs.declared.header.Found.the-variants as found
-use Rattle.netpbm.specs.Header.{startsWith, isWhite, endsLine, afterBlanks, afterComment, digitsOf, Taken, takeWord, takeBlanks, takeNumber, takeSpaced, takeEnded}
-use Rattle.netpbm.specs.Answers.{held, numberMost, Place, NumberAt, FoundAs}
+use Rattle.netpbm.specs.Header.{startsWith, isWhite, endsLine, afterBlanks, afterComment, digitsOf, takeWord, takeBlanks, takeNumber, takeSpaced, takeEnded}
+use Rattle.netpbm.specs.Inner.{held, numberMost, Place, NumberAt, FoundAs}
 
 -- the bytes from a place on are the byte there and those after it
 pub byte-at : (s : List ℕ) (i : ℕ) → i < length s → drop i s ≡ getD s i 0 ∷ drop (i + 1) s
@@ -134,13 +134,13 @@ held-from w n =
     (lt-or-le n numberMost)
 
 -- the number of the first i digits of a word is n, as it is held
-pub record Numbered (w : List ℕ) (n i : ℕ) : Type 0 where
+pub record NumberSoFar (w : List ℕ) (n i : ℕ) : Type 0 where
   pub within : i ≤ length w
   pub small : n ≤ numberMost
   pub digit : allDigits (drop i w) ≡ true
   pub same : held (decimalFrom n (drop i w)) ≡ held (decimalFrom 0 w)
 
-module _ {w : List ℕ} {n i : ℕ} (r : Numbered w n i) where
+module _ {w : List ℕ} {n i : ℕ} (r : NumberSoFar w n i) where
   -- all digits are passed
   pub numbered-all : length w ≤ i → n ≡ held (decimalFrom 0 w)
   numbered-all h = omega (arith, held-min n, rw (drop-of-length-le w h) at (r .same))
@@ -151,7 +151,7 @@ module _ {w : List ℕ} {n i : ℕ} (r : Numbered w n i) where
     numbered-digit = and-both (isDigit (getD w i 0)) (allDigits (drop (i + 1) w)) (rw (byte-at w i h) at (r .digit))
 
     -- the number with that digit
-    pub numbered-next : {m : ℕ} → m ≡ held (n * 10 + (getD w i 0 - 48)) → Numbered w m (i + 1)
+    pub numbered-next : {m : ℕ} → m ≡ held (n * 10 + (getD w i 0 - 48)) → NumberSoFar w m (i + 1)
     numbered-next {m} e = record {
       within = omega arith;
       small = omega (arith, held-min (n * 10 + (getD w i 0 - 48)));

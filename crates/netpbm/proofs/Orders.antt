@@ -15,7 +15,7 @@ use lib.Ieee.Scale.{finite}
 use Rattle.netpbm.specs.declared.order.Order.{Order}
 use Rattle.netpbm.specs.declared.order.Order.the-variants.{Little, Big}
 use Rattle.netpbm.specs.Order.{lowBytes, patternOf, fourBytes, fourPattern}
-use Rattle.netpbm.specs.Pfm.{outward, inward, cellBytes, cellsBytes, cellOf}
+use Rattle.netpbm.specs.Pfm.{outward, inward, cellBytes, cellsBytes, fileCell}
 
 -- ---- patterns
 
@@ -60,12 +60,12 @@ cells-length o (x ∷ xs) = omega (arith, length-append (cellBytes o x) (cellsBy
 -- ---- cells
 
 -- what is read of the bytes of a cell
-cell-read : (o : Order) (x : Float) → T (fits binary32 (outward x)) → cellOf o (cellBytes o x) ≡ inward (outward x)
-unfolding cellOf cellBytes
+cell-read : (o : Order) (x : Float) → T (fits binary32 (outward x)) → fileCell o (cellBytes o x) ≡ inward (outward x)
+unfolding fileCell cellBytes
 cell-read o x p = rw (order-back o (toBits binary32 (outward x)) (toBits-lt binary32 (outward x) p), ofBits-toBits binary32 (outward x) p)
 
 -- THEOREM: a cell that is finite or a NaN is read back in either order
-pub cell-back : (o : Order) (x : Float) → T (fits binary32 x) → finite x || isNan x ≡ true → cellOf o (cellBytes o x) ≡ x
+pub cell-back : (o : Order) (x : Float) → T (fits binary32 x) → finite x || isNan x ≡ true → fileCell o (cellBytes o x) ≡ x
 unfolding isNan
 cell-back o nan p f = cell-read o nan (inf-fits binary32 false)
 cell-back o (inf s) p f = absurd (false≢true f)
@@ -77,13 +77,13 @@ unfolding cellBytes fourBytes lowBytes toBits
 blank-out = refl
 
 -- THEOREM: any cell that is not finite is read as the mark
-pub blank-in : (o : Order) (bytes : List ℕ) → finite (ofBits binary32 (fourPattern o bytes)) ≡ false → cellOf o bytes ≡ nan
-unfolding cellOf
+pub blank-in : (o : Order) (bytes : List ℕ) → finite (ofBits binary32 (fourPattern o bytes)) ≡ false → fileCell o bytes ≡ nan
+unfolding fileCell
 blank-in o bytes e = rw e
 
 -- a cell that was read is finite or the mark
-pub read-valid : (o : Order) (bytes : List ℕ) → finite (cellOf o bytes) || isNan (cellOf o bytes) ≡ true
-unfolding cellOf isNan
+pub read-valid : (o : Order) (bytes : List ℕ) → finite (fileCell o bytes) || isNan (fileCell o bytes) ≡ true
+unfolding fileCell isNan
 read-valid o bytes = go (ofBits binary32 (fourPattern o bytes))
   where
     go : (x : Float) → finite (inward x) || isNan (inward x) ≡ true

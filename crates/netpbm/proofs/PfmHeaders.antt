@@ -7,12 +7,12 @@ use native.Mathlib.Omega.{arith}
 use borrow.Author.Tests.{lt-ltb, ltb-true, ne-eqb}
 use lib.Dec.{ltb}
 use lib.ListN.{drop}
-use Rattle.lists.specs.Steps.{is}
-use Rattle.lists.proofs.Stepwise.{same-result, then-is, given-then}
+use Rattle.refusals.specs.Steps.{is, Taken}
+use Rattle.refusals.proofs.Stepwise.{same-result, then-is, given-then}
 use Rattle.texts.specs.Digits.{isDigit, decimalText, Numeral}
 use Rattle.netpbm.specs.declared.order.Order.{Order}
 use Rattle.netpbm.specs.declared.order.Order.the-variants.{Little, Big}
-use Rattle.netpbm.specs.Header.{Taken, startsWith, takeWord, digitsOf, takeNumber, takeEnded}
+use Rattle.netpbm.specs.Header.{startsWith, takeWord, digitsOf, takeNumber, takeEnded}
 use Rattle.netpbm.specs.Pfm.{pfmMagic, space, lineEnd, minus, plus, point, scaleLine, pfmHead, Scale, PfmHead, takeSign, takeFraction, takeScale, takePfmHead}
 use Rattle.netpbm.specs.Grammar.{Sign, negative, positive, unsigned, Fraction, pointed, whole, ScaleText, PfmHeader}
 use Rattle.texts.proofs.Decimals.{decimal-numeral}

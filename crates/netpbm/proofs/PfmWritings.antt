@@ -1,20 +1,22 @@
 -- What the proofs of writing a PFM map share: the byte counts of its header and of its file. Assumes nothing.
-use Prim.Native.Nat.{ℕ, _+_, _*_, _≤_}
+use Prim.Native.Nat.{ℕ, zero, suc, _+_, _*_, _≤_}
 use native.Mathlib.Nat.{mul-comm}
 use native.Mathlib.Omega.{arith}
-use mathlib.Core.Path.{_≡_, sym, ap, _∙_}
-use mathlib.Core.Bool.{true, false}
+use mathlib.Core.Path.{_≡_, refl, sym, ap, _∙_}
+use mathlib.Core.Bool.{true}
 use mathlib.Core.List.{List, _++_}
 use lib.ListN.{length, length-append}
 use lib.Ieee.{Float}
 use Rattle.options.specs.Limits.{sideMost}
 use Rattle.lists.specs.Rows.{bottomUp}
-use Rattle.lists.specs.Steps.{is, refused, listIn}
+use Rattle.refusals.specs.Answered.{firstOf}
+use Rattle.refusals.specs.Outcome.{answerFor}
+use Rattle.refusals.specs.Steps.{is, refused, listIn}
 use Rattle.lists.proofs.Rows.{bottomUp-length}
-use Rattle.lists.proofs.Stepwise.{given-is}
-use Rattle.lists.proofs.Writes.{Measured}
-use Rattle.maps.specs.Map.{goodSize}
-use Rattle.maps.proofs.Facts.{good, pixels-small}
+use Rattle.refusals.proofs.Stepwise.{not-refused, same-result}
+use Rattle.refusals.proofs.Writes.{Measured}
+use Rattle.maps.specs.Map.{goodSize, sizeRows}
+use Rattle.maps.proofs.Facts.{good, size-tested, pixels-small}
 use Rattle.texts.specs.Digits.{decimalText}
 use Rattle.texts.proofs.Digits.{decimal-most}
 use Rattle.netpbm.specs.declared.order.Order.the-variants.{Little}
@@ -49,7 +51,7 @@ pub record PfmFile (w h : ℕ) (cells : List Float) (n : ℕ) : Type 0 where
 module _ (w h : ℕ) (cells : List Float) where
   -- a map of a good size has one
   pub pfm-file : goodSize w h (length cells) ≡ true → PfmFile w h cells (length (pfmHead w h) + 4 * (w * h))
-  unfolding pfmOf
+  unfolding pfmOf firstOf
   pfm-file t =
       let g = good w h (length cells) t in
       let rows = bottomUp w h cells in
@@ -61,15 +63,18 @@ module _ (w h : ℕ) (cells : List Float) where
         few = pixels-small w h (g .narrow) (g .low);
       }
 
-  -- a map of another size has none
-  pub pfm-23 : goodSize w h (length cells) ≡ false → pfmOf w h cells ≡ refused 23
+  -- what a map that has a file says
+  pub pfm-good : {s : List ℕ} → pfmOf w h cells ≡ is s → (goodSize w h (length cells) ≡ true) × (fileBytes w h cells ≡ s)
   unfolding pfmOf
-  pfm-23 t = rw t
+  pfm-good {s} = go (firstOf (sizeRows w h (length cells))) refl
+    where
+      go : (n : ℕ) → firstOf (sizeRows w h (length cells)) ≡ n → answerFor n refused (is (fileBytes w h cells)) ≡ is s → (goodSize w h (length cells) ≡ true) × (fileBytes w h cells ≡ s)
+      go zero none e = (size-tested w h (length cells) none, same-result e)
+      go (suc n) some e = not-refused (sym e)
 
   -- a file that was measured
   pub pfm-measured : {n : ℕ} → Measured (pfmOf w h cells) n → PfmFile w h cells n
-  unfolding pfmOf
   pfm-measured {n} m =
-      let f = pfm-file (given-is (goodSize w h (length cells)) 23 (fileBytes w h cells) (listIn (pfmOf w h cells)) (m .accepted) .0) in
+      let f = pfm-file (pfm-good (m .there) .0) in
       let same : length (pfmHead w h) + 4 * (w * h) ≡ n = sym (f .count) ∙ ap (λ o. length (listIn o)) (sym (f .whole)) ∙ m .count in
       rw (← same) f

@@ -7,10 +7,10 @@ use native.Mathlib.Omega.{arith}
 use borrow.Author.Tests.{lt-ltb, ltb-true, eq-eqb, le-leb, lt-leb, ne-eqb, eqb-true, leb-true}
 use lib.Dec.{leb, ltb, eqb}
 use lib.ListN.{length, length-append}
-use Rattle.lists.specs.Steps.{is}
-use Rattle.lists.proofs.Stepwise.{not-refused, same-result, then-is, given-is, given-then}
+use Rattle.refusals.specs.Steps.{is, Taken}
+use Rattle.refusals.proofs.Stepwise.{not-refused, same-result, then-is, given-is, given-then}
 use Rattle.lists.proofs.Tests.{and-both}
-use Rattle.netpbm.specs.Header.{Taken, isWhite, takeWord, endsLine, takeWhite, afterBlanks, afterComment, takeBlanks, digitsOf, takeNumber, takeSpaced}
+use Rattle.netpbm.specs.Header.{isWhite, takeWord, endsLine, takeWhite, afterBlanks, afterComment, takeBlanks, digitsOf, takeNumber, takeSpaced}
 use Rattle.texts.specs.Digits.{Numeral}
 use Rattle.netpbm.specs.Grammar.{InLine, Blanks, white, comment, more, Spaced, spaced, PgmHeader, PgmText}
 use Rattle.netpbm.specs.Raster.{Raster, sized}

@@ -13,7 +13,7 @@ use Rattle.lists.specs.Rows.{rowOf, bottomUp}
 use Rattle.lists.proofs.Lists.{put-next}
 use Rattle.lists.proofs.Rows.{Upward, UpwardRoom, upward-none, upward-more, upward-all, upward-room, row-long, bottomUp-length}
 use Rattle.netpbm.specs.declared.order.Order.{Order}
-use Rattle.netpbm.specs.Pfm.{cellBytes, cellsBytes, cellOf, cellsOf}
+use Rattle.netpbm.specs.Pfm.{cellBytes, cellsBytes, fileCell, fileCells}
 use Rattle.netpbm.proofs.Orders.{cells-length}
 
 module _ (o : Order) where
@@ -37,52 +37,52 @@ module _ (o : Order) where
   -- ---- reading
 
   -- as many cells as were asked for
-  cells-count : (n : ℕ) (s : List ℕ) → length (cellsOf o n s) ≡ n
-  unfolding cellsOf
+  cells-count : (n : ℕ) (s : List ℕ) → length (fileCells o n s) ≡ n
+  unfolding fileCells
   cells-count zero s = refl
   cells-count (suc n) s = ap suc (cells-count n (drop 4 s))
 
   -- some cells and then others
-  cells-split : (n m : ℕ) (s : List ℕ) → cellsOf o (n + m) s ≡ cellsOf o n s ++ cellsOf o m (drop (4 * n) s)
-  unfolding cellsOf
+  cells-split : (n m : ℕ) (s : List ℕ) → fileCells o (n + m) s ≡ fileCells o n s ++ fileCells o m (drop (4 * n) s)
+  unfolding fileCells
   cells-split zero m s = rw zero-add
   cells-split (suc n) m s =
       let far : 4 * suc n ≡ 4 + 4 * n = omega arith in
-      rw (suc-add, far, ← drop-drop (4 * n) 4 s) (ap (λ r. cellOf o (take 4 s) ∷ r) (cells-split n m (drop 4 s)))
+      rw (suc-add, far, ← drop-drop (4 * n) 4 s) (ap (λ r. fileCell o (take 4 s) ∷ r) (cells-split n m (drop 4 s)))
 
   -- bytes past the cells do not count
-  cells-front : (n : ℕ) (a b : List ℕ) → 4 * n ≤ length a → cellsOf o n (a ++ b) ≡ cellsOf o n a
-  unfolding cellsOf
+  cells-front : (n : ℕ) (a b : List ℕ) → 4 * n ≤ length a → fileCells o n (a ++ b) ≡ fileCells o n a
+  unfolding fileCells
   cells-front zero a b l = refl
   cells-front (suc n) a b l =
       let four : 4 ≤ length a = omega arith in
-      rw (take-append-le, drop-append-le) (ap (λ r. cellOf o (take 4 a) ∷ r) (cells-front n (drop 4 a) b (rw length-drop (omega arith))))
+      rw (take-append-le, drop-append-le) (ap (λ r. fileCell o (take 4 a) ∷ r) (cells-front n (drop 4 a) b (rw length-drop (omega arith))))
 
   -- a row of the cells, from its bytes
-  cells-row : (w n y : ℕ) (s : List ℕ) → y * w + w ≤ n → length s ≡ 4 * n → cellsOf o w (take (4 * w) (drop (4 * (y * w)) s)) ≡ rowOf w (cellsOf o n s) y
+  cells-row : (w n y : ℕ) (s : List ℕ) → y * w + w ≤ n → length s ≡ 4 * n → fileCells o w (take (4 * w) (drop (4 * (y * w)) s)) ≡ rowOf w (fileCells o n s) y
   cells-row w n y s l long =
       let t = drop (4 * (y * w)) s in
       let m = n - (y * w + w) in
       let parts : n ≡ y * w + (w + m) = omega arith in
       let four : 4 * w ≤ length (take (4 * w) t) = simp (length-take, length-drop) (omega arith) in
       rw (parts, cells-split (y * w) (w + m) s, drop-at _ _ (y * w) (cells-count (y * w) s), cells-split w m t, take-at _ _ w (cells-count w t))
-      (sym (cells-front w (take (4 * w) t) (drop (4 * w) t) four) ∙ ap (cellsOf o w) (take-append-drop (4 * w) t))
+      (sym (cells-front w (take (4 * w) t) (drop (4 * w) t) four) ∙ ap (fileCells o w) (take-append-drop (4 * w) t))
 
 -- the first i cells of s were put over those of old
 pub record Filled (o : Order) (s : List ℕ) (old : List Float) (i : ℕ) (new : List Float) : Type 0 where
   pub within : i ≤ length old
   pub long : length new ≡ length old
-  pub stand : new ≡ cellsOf o i s ++ drop i old
+  pub stand : new ≡ fileCells o i s ++ drop i old
 
 module _ (o : Order) (s : List ℕ) (old : List Float) where
   -- before the first
   pub filled-none : Filled o s old 0 old
-  unfolding cellsOf
+  unfolding fileCells
   filled-none = record { within = omega arith; long = refl; stand = refl }
 
   -- one cell more
-  pub filled-more : (i : ℕ) (new : List Float) (x : Float) → Filled o s old i new → i < length old → x ≡ cellOf o (take 4 (drop (4 * i) s)) → Filled o s old (i + 1) (set new i x)
-  unfolding cellsOf
+  pub filled-more : (i : ℕ) (new : List Float) (x : Float) → Filled o s old i new → i < length old → x ≡ fileCell o (take 4 (drop (4 * i) s)) → Filled o s old (i + 1) (set new i x)
+  unfolding fileCells
   filled-more i new x f l e = record {
     within = omega arith;
     long = rw length-set (f .long);
@@ -90,7 +90,7 @@ module _ (o : Order) (s : List ℕ) (old : List Float) where
   }
 
   -- after the last
-  pub filled-all : (i : ℕ) (new : List Float) → Filled o s old i new → length old ≤ i → new ≡ cellsOf o (length old) s
+  pub filled-all : (i : ℕ) (new : List Float) → Filled o s old i new → length old ≤ i → new ≡ fileCells o (length old) s
   filled-all i new f l =
       let last : length old ≡ i = omega (arith, f .within) in
       f .stand ∙ rw (drop-of-length-le old l, append-nil, last)
@@ -102,7 +102,7 @@ part-long from n l h = rw add-sub-cancel-left (length-take-le n (drop from l) (r
 -- the rows of s from row y on, the bottom one first, were put over the first `from` cells of old
 pub record FilledRows (o : Order) (w h : ℕ) (s : List ℕ) (old : List Float) (y from : ℕ) (new : List Float) : Type 0 where
   pub rows : List Float
-  pub passed : Upward w h (cellsOf o (w * h) s) y rows
+  pub passed : Upward w h (fileCells o (w * h) s) y rows
   pub place : from ≡ length rows
   pub long : length new ≡ length old
   pub stand : new ≡ rows ++ drop from old
@@ -110,12 +110,12 @@ pub record FilledRows (o : Order) (w h : ℕ) (s : List ℕ) (old : List Float) 
 module _ (o : Order) (w h : ℕ) (s : List ℕ) (old : List Float) where
   -- before the bottom row
   pub rows-none : FilledRows o w h s old h 0 old
-  rows-none = record { rows = []; passed = upward-none w h (cellsOf o (w * h) s); place = refl; long = refl; stand = refl }
+  rows-none = record { rows = []; passed = upward-none w h (fileCells o (w * h) s); place = refl; long = refl; stand = refl }
 
   module _ (y from : ℕ) (new : List Float) (f : FilledRows o w h s old y from new) where
     -- the next row is there
     pub rows-room : 0 < y → UpwardRoom w h y (f .rows)
-    rows-room some = upward-room w h (cellsOf o (w * h) s) y (f .rows) (f .passed) some (cells-count o (w * h) s)
+    rows-room some = upward-room w h (fileCells o (w * h) s) y (f .rows) (f .passed) some (cells-count o (w * h) s)
 
     -- the part that is lent for it has its length
     part-size : 0 < y → length old ≡ w * h → length (take (from + w - from) (drop from new)) ≡ w
@@ -128,11 +128,11 @@ module _ (o : Order) (w h : ℕ) (s : List ℕ) (old : List Float) where
 
     -- one row more
     pub rows-more : (part : List Float) → 0 < y → length old ≡ w * h → length s ≡ 4 * (w * h)
-        → part ≡ cellsOf o (length (take (from + w - from) (drop from new))) (take (4 * ((y - 1) * w) + 4 * w - 4 * ((y - 1) * w)) (drop (4 * ((y - 1) * w)) s))
+        → part ≡ fileCells o (length (take (from + w - from) (drop from new))) (take (4 * ((y - 1) * w) + 4 * w - 4 * ((y - 1) * w)) (drop (4 * ((y - 1) * w)) s))
         → FilledRows o w h s old (y - 1) (from + w) (putMid from (from + w - from) new part)
     rows-more part some wide deep made =
         let room = rows-room some in
-        let all = cellsOf o (w * h) s in
+        let all = fileCells o (w * h) s in
         let row = rowOf w all (y - 1) in
         let is : part ≡ row = made ∙ rw (part-size some wide, add-sub-cancel-left) (cells-row o w (w * h) (y - 1) s (room .next) deep) in
         let count : length (f .rows ++ row) ≡ from + w =
@@ -147,9 +147,9 @@ module _ (o : Order) (w h : ℕ) (s : List ℕ) (old : List Float) where
         }
 
     -- after the top row
-    pub rows-all : y ≤ 0 → length old ≡ w * h → new ≡ bottomUp w h (cellsOf o (w * h) s)
+    pub rows-all : y ≤ 0 → length old ≡ w * h → new ≡ bottomUp w h (fileCells o (w * h) s)
     rows-all none wide =
-        let all = cellsOf o (w * h) s in
+        let all = fileCells o (w * h) s in
         let is = upward-all w h all y (f .rows) (f .passed) none in
         let enough : h * w ≤ length all = rw cells-count (omega (arith, mul-comm w h)) in
         let past : length old ≤ from = omega (arith, f .place, ap length is, bottomUp-length w h all enough) in

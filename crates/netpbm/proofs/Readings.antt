@@ -5,16 +5,17 @@ use mathlib.Core.Bool.{Bool, true, false, cond}
 use mathlib.Core.List.{List, append-nil}
 use mathlib.Core.Logic.{⊎-elim}
 use native.Mathlib.Omega.{arith}
-use borrow.Author.Tests.{lt-ltb, le-ltb, le-leb, lt-leb, leb-true, eq-eqb, ne-eqb}
+use borrow.Author.Tests.{lt-ltb, le-ltb, le-leb, lt-leb, eq-eqb, ne-eqb}
 use borrow.Rule.Slice.PartAt.{part-to-end}
 use lib.ListN.{length, getD, take, drop, drop-of-length-le}
 use lib.Seq.{drop-length}
-use lib.Dec.{leb, ltb, eqb}
+use lib.Dec.{ltb, eqb}
 use Rattle.options.specs.Limits.{sideMost, isSide}
+use Rattle.options.proofs.Sides.{side-fits}
 use Rattle.lists.specs.Stores.{Wrote}
-use Rattle.lists.specs.Steps.{Or, is, refused}
+use Rattle.refusals.specs.Steps.{Or, is, refused}
 use Rattle.lists.proofs.Stores.{wrote-front}
-use Rattle.lists.proofs.Tests.{and-both, lt-or-le}
+use Rattle.lists.proofs.Tests.{lt-or-le}
 use Rattle.netpbm.specs.declared.order.Order.{Order}
 use Rattle.netpbm.specs.declared.order.Order.the-variants.{Big}
 use Rattle.netpbm.specs.declared.raster.Size.{Size}
@@ -25,8 +26,8 @@ use Rattle.netpbm.specs.Header.{startsWith, takeWord, isWhite, takeWhite
 use Rattle.netpbm.specs.Raster.{Raster, sized}
 use Rattle.netpbm.specs.Pgm.{pgmMagic, takePgmHead, readPgm}
 use Rattle.netpbm.specs.Pfm.{Scale, pfmMagic, space, lineEnd, minus, plus, takeSign, takeFraction, takeScale, takePfmHead, readPfm}
-use Rattle.netpbm.specs.Outcome.{ReadDone}
-use Rattle.netpbm.specs.Answers.{numberMost, held, Place, NumberAt, ScaleAt, PgmAt, PfmAt, DataAt, Fitting, SizedAs, PictureAs, MapAs}
+use Rattle.netpbm.specs.Outcome.{ReadOutcome}
+use Rattle.netpbm.specs.Inner.{numberMost, held, Place, NumberAt, ScaleAt, PgmAt, PfmAt, DataAt, Fitting, SizedAs, PictureAs, MapAs}
 use Rattle.netpbm.proofs.Headers.{byte-at, past-word, held-min}
 
 -- ---- places
@@ -183,10 +184,6 @@ module _ (s : List ℕ) where
 
 -- ---- a raster's size
 
--- a side is small
-pub side-most : (n : ℕ) → isSide n ≡ true → n ≤ sideMost
-side-most n e = leb-true n sideMost (and-both (leb 1 n) (leb n sideMost) e .1)
-
 -- a number is a side where what is held of it is one
 side-held : (n : ℕ) → isSide n ≡ isSide (held n)
 side-held n =
@@ -195,7 +192,7 @@ side-held n =
 
 -- and then it is held as it is
 side-is : (x n : ℕ) → x ≡ held n → isSide x ≡ true → n ≡ x
-side-is x n p e = omega (arith, held-min n, side-most x e)
+side-is x n p e = omega (arith, held-min n, side-fits x e .most)
 
 -- the size, by its tests
 module _ (each x y : ℕ) (bytes : List ℕ) where
@@ -223,8 +220,8 @@ module _ (each x y : ℕ) (bytes : List ℕ) where
         accepted = rw (a, b, eq-eqb (length bytes) (each * (x * y)) long);
         wide = refl;
         high = refl;
-        narrow = side-most x a;
-        low = side-most y b;
+        narrow = side-fits x a .most;
+        low = side-fits y b .most;
         long = long;
       }
 
@@ -308,16 +305,16 @@ module _ (s : List ℕ) where
 -- ---- what the calls that read do, by their tests
 module _ {A : Type 0} {raster : Or (Raster A)} (out : List A) where
   -- the bytes are refused
-  pub read-refused : {n : ℕ} → raster ≡ refused n → ReadDone (size.Refused n) raster out out
+  pub read-refused : {n : ℕ} → raster ≡ refused n → ReadOutcome (size.Refused n) raster out out
   read-refused e = rw e (record { answers = refl; outs = refl })
 
   module _ {w h : ℕ} {cells : List A} (e : raster ≡ is (record { width = w; height = h; cells = cells })) where
     -- the output has another length
-    pub read-unfit : (length out ≡ w * h → ⊥) → ReadDone (size.Refused 45) raster out out
+    pub read-unfit : (length out ≡ w * h → ⊥) → ReadOutcome (size.Refused 45) raster out out
     read-unfit far = let t = ne-eqb (length out) (w * h) far in rw e (record { answers = rw t; outs = rw t })
 
     -- the cells were written
-    pub read-done : length out ≡ w * h → {out′ : List A} → out′ ≡ cells → ReadDone (size.Is w h) raster out out′
+    pub read-done : length out ≡ w * h → {out′ : List A} → out′ ≡ cells → ReadOutcome (size.Is w h) raster out out′
     read-done fit q = let t = eq-eqb (length out) (w * h) fit in rw (e, q) (record { answers = rw t; outs = rw t })
 
 -- the data fill a part that begins at their place and goes to the end

@@ -7,12 +7,12 @@ use borrow.Author.Tests.{le-leb, leb-true, eq-eqb, eqb-true}
 use lib.Dec.{leb, eqb}
 use lib.ListN.{length, drop, take-append-drop}
 use lib.Seq.{drop-append-seam}
-use Rattle.lists.specs.Steps.{Or, is, refused, andThen, given}
-use Rattle.lists.proofs.Stepwise.{not-refused, same-result, then-is, given-is}
+use Rattle.refusals.specs.Steps.{Or, is, refused, andThen, given, Taken}
+use Rattle.refusals.proofs.Stepwise.{not-refused, same-result, then-is, given-is}
 use Rattle.lists.proofs.Tests.{and-both}
 use Rattle.options.specs.Limits.{sideMost, isSide}
 use Rattle.texts.specs.Digits.{isDigit, allDigits, Numeral}
-use Rattle.netpbm.specs.Header.{Taken, startsWith, takeWord, digitsOf, takeNumber, takeEnded}
+use Rattle.netpbm.specs.Header.{startsWith, takeWord, digitsOf, takeNumber, takeEnded}
 use Rattle.netpbm.specs.Raster.{sized}
 use Rattle.netpbm.proofs.Headers.{digits-all, digits-front}
 

@@ -1,6 +1,6 @@
 -- What the answers of the calls that read give back. Definitions only.
 use Prim.Native.Nat.{ℕ}
-use Rattle.lists.specs.Steps.{Or, is, refused}
+use Rattle.refusals.specs.Steps.{Or, is, refused}
 use Rattle.netpbm.specs.declared.raster.Size.{Size}
 use Rattle.netpbm.specs.declared.raster.Size.the-variants as size
 

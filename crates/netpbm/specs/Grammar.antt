@@ -1,7 +1,7 @@
 -- A PGM file and a PFM header as the Netpbm pages describe them, said of the bytes that are there. Definitions only.
 use Prim.Native.Nat.{ℕ, _+_, _*_, _<_}
 use mathlib.Core.Path.{_≡_}
-use mathlib.Core.Bool.{true, false}
+use mathlib.Core.Bool.{true, false, _&&_}
 use mathlib.Core.List.{List, [], _∷_, _++_}
 use lib.ListN.{length}
 use Rattle.options.specs.Limits.{isSide}
@@ -27,6 +27,8 @@ pub data Blanks : List ℕ → Type 0 where
 pub data Spaced : List ℕ → ℕ → Type 0 where
   spaced : {gap word : List ℕ} {n : ℕ} → Blanks gap → Numeral word n → Spaced (gap ++ word) n
 
+-- ---- PGM
+
 -- a PGM header and the bytes after it: the magic number; white space and a width; white space and a height; white space and a maximum; a single white-space character
 pub record PgmHeader (s : List ℕ) (w h m : ℕ) (rest : List ℕ) : Type 0 where
   pub width : List ℕ
@@ -45,6 +47,40 @@ pub record PgmText (s : List ℕ) (w h : ℕ) (levels : List ℕ) : Type 0 where
   pub wide : isSide w ≡ true
   pub high : isSide h ≡ true
   pub long : length levels ≡ w * h
+
+-- ---- what else bytes can be, each by the number that refuses it
+
+-- 41: there is no header
+abbrev pub NoHeader : List ℕ → Type 0
+NoHeader s = (w h m : ℕ) (rest : List ℕ) → PgmHeader s w h m rest → ⊥
+
+-- 42: there is one, and its maximum is not 255
+pub record OtherMaximum (s : List ℕ) : Type 0 where
+  pub width : ℕ
+  pub height : ℕ
+  pub maximum : ℕ
+  pub rest : List ℕ
+  pub header : PgmHeader s width height maximum rest
+  pub other : maximum ≡ 255 → ⊥
+
+-- 43: there is one with that maximum, and a side is not from 1 to 2,048
+pub record SideOut (s : List ℕ) : Type 0 where
+  pub width : ℕ
+  pub height : ℕ
+  pub rest : List ℕ
+  pub header : PgmHeader s width height 255 rest
+  pub out : isSide width && isSide height ≡ false
+
+-- 44: there is one with that maximum and such sides, and the bytes after it are not as many as pixels
+pub record DataOff (s : List ℕ) : Type 0 where
+  pub width : ℕ
+  pub height : ℕ
+  pub rest : List ℕ
+  pub header : PgmHeader s width height 255 rest
+  pub sides : isSide width && isSide height ≡ true
+  pub off : length rest ≡ width * height → ⊥
+
+-- ---- PFM
 
 -- a scale's sign: a minus says little-endian, a plus or none big-endian
 pub data Sign : List ℕ → Order → Type 0 where

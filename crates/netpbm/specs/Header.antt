@@ -4,7 +4,7 @@ use mathlib.Core.Bool.{Bool, true, false, cond, _&&_, _||_}
 use mathlib.Core.List.{List, [], _∷_}
 use lib.ListN.{length, drop}
 use lib.Dec.{leb, ltb, eqb}
-use Rattle.lists.specs.Steps.{Or, is, refused, andThen, given}
+use Rattle.refusals.specs.Steps.{Or, is, refused, andThen, given, Taken}
 use Rattle.texts.specs.Digits.{isDigit, decimalFrom}
 
 -- ---- characters that stand as they are
@@ -55,11 +55,6 @@ takeBlanks s = given (ltb (length (afterBlanks s)) (length s)) 41 (afterBlanks s
 unfoldable pub digitsOf : List ℕ → List ℕ
 digitsOf [] = []
 digitsOf (b ∷ s) = cond (isDigit b) (b ∷ digitsOf s) []
-
--- a number that was taken, and the bytes after it
-pub record Taken : Type 0 where
-  pub number : ℕ
-  pub rest : List ℕ
 
 -- a number in ASCII decimal: one digit or more
 unfoldable pub takeNumber : List ℕ → Or Taken

@@ -1,4 +1,4 @@
--- PGM pictures and PFM maps as bytes, and what bytes say, in the order in which they are to be read.
+-- PGM pictures and PFM maps as bytes, and what bytes say. What a reader must believe, in the order in which it is to be read.
 pub mod Header
 pub mod Order
 pub mod Raster
@@ -7,4 +7,5 @@ pub mod Pfm
 pub mod Grammar
 pub mod Outcome
 pub mod Given
-pub mod Answers
+-- what serves the functions inside alone
+pub mod Inner

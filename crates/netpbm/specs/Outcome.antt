@@ -4,7 +4,8 @@ use mathlib.Core.Path.{_≡_}
 use mathlib.Core.List.{List}
 use lib.ListN.{length}
 use lib.Dec.{eqb}
-use Rattle.lists.specs.Steps.{Or, is, refused, andThen, given}
+use Rattle.refusals.specs.Steps.{Or, is, refused, andThen, given}
+use Rattle.refusals.specs.Given.{valueAfter}
 use Rattle.netpbm.specs.declared.raster.Size.{Size}
 use Rattle.netpbm.specs.declared.raster.Size.the-variants as size
 use Rattle.netpbm.specs.Raster.{Raster}
@@ -20,10 +21,9 @@ sizeOf (refused n) = size.Refused n
 
 -- the output afterwards: the cells
 abbrev pub cellsAfter : {A : Type 0} → Or (Raster A) → List A → List A
-cellsAfter (is r) out = r .cells
-cellsAfter (refused n) out = out
+cellsAfter raster out = valueAfter (andThen raster (λ r. is (r .cells))) out
 
 -- what a call that reads does, for what the bytes say or their refusal
-pub record ReadDone {A : Type 0} (answer : Size) (raster : Or (Raster A)) (out out′ : List A) : Type 0 where
+pub record ReadOutcome {A : Type 0} (answer : Size) (raster : Or (Raster A)) (out out′ : List A) : Type 0 where
   pub answers : answer ≡ sizeOf (cellsFor (length out) raster)
   pub outs : out′ ≡ cellsAfter (cellsFor (length out) raster) out

@@ -8,12 +8,14 @@ use lib.Dec.{ltb}
 use lib.Ieee.{Float, nan, inf, fin, binary32, isNan, toBits, ofBits}
 use lib.Ieee.Scale.{finite}
 use Rattle.lists.specs.Rows.{bottomUp}
-use Rattle.lists.specs.Steps.{Or, is, andThen, given}
+use Rattle.refusals.specs.Answered.{firstOf}
+use Rattle.refusals.specs.Outcome.{answerFor}
+use Rattle.refusals.specs.Steps.{Or, is, refused, andThen, given, Taken}
 use Rattle.texts.specs.Digits.{decimalText}
-use Rattle.maps.specs.Map.{goodSize}
+use Rattle.maps.specs.Map.{sizeRows}
 use Rattle.netpbm.specs.declared.order.Order.{Order}
 use Rattle.netpbm.specs.declared.order.Order.the-variants.{Little, Big}
-use Rattle.netpbm.specs.Header.{Taken, startsWith, takeWord, takeNumber, takeEnded}
+use Rattle.netpbm.specs.Header.{startsWith, takeWord, takeNumber, takeEnded}
 use Rattle.netpbm.specs.Order.{fourBytes, fourPattern}
 use Rattle.netpbm.specs.Raster.{Raster, sized}
 
@@ -62,9 +64,9 @@ scaleLine = 45 ∷ 49 ∷ 46 ∷ 48 ∷ 10 ∷ []
 unfoldable pub pfmHead : ℕ → ℕ → List ℕ
 pfmHead w h = pfmMagic ++ decimalText w ++ space ++ decimalText h ++ lineEnd ++ scaleLine
 
--- the file of a map: 23 where its size is not good; the bottom row comes first
+-- the file of a map, refused as its size is; the bottom row comes first
 unfoldable pub pfmOf : ℕ → ℕ → List Float → Or (List ℕ)
-pfmOf w h cells = given (goodSize w h (length cells)) 23 (pfmHead w h ++ cellsBytes Little (bottomUp w h cells))
+pfmOf w h cells = answerFor (firstOf (sizeRows w h (length cells))) refused (is (pfmHead w h ++ cellsBytes Little (bottomUp w h cells)))
 
 -- ---- reading
 
@@ -113,20 +115,20 @@ abbrev pub inward : Float → Float
 inward x = cond (finite x) x nan
 
 -- the cell that four bytes are
-unfoldable pub cellOf : Order → List ℕ → Float
-cellOf o bytes = inward (ofBits binary32 (fourPattern o bytes))
+unfoldable pub fileCell : Order → List ℕ → Float
+fileCell o bytes = inward (ofBits binary32 (fourPattern o bytes))
 
 -- the first n cells of some bytes
-unfoldable pub cellsOf : Order → ℕ → List ℕ → List Float
-cellsOf o zero s = []
-cellsOf o (suc n) s = cellOf o (take 4 s) ∷ cellsOf o n (drop 4 s)
+unfoldable pub fileCells : Order → ℕ → List ℕ → List Float
+fileCells o zero s = []
+fileCells o (suc n) s = fileCell o (take 4 s) ∷ fileCells o n (drop 4 s)
 
 -- what some bytes say: 41, then 43 and 44; the bottom row comes first
 unfoldable pub readPfm : List ℕ → Or (Raster Float)
 readPfm s =
     andThen (takePfmHead s) (λ head.
     andThen (sized 4 (head .width) (head .height) (head .rest)) (λ bytes.
-    is (record { width = head .width; height = head .height; cells = bottomUp (head .width) (head .height) (cellsOf (head .order) (head .width * head .height) bytes) })))
+    is (record { width = head .width; height = head .height; cells = bottomUp (head .width) (head .height) (fileCells (head .order) (head .width * head .height) bytes) })))
 
 -- no cell is an infinity
 abbrev pub NoInfinity : List Float → Type 0

@@ -2,7 +2,7 @@
 use Prim.Native.Nat.{ℕ}
 use mathlib.Core.List.{List, [], _∷_}
 use lib.Dec.{eqb}
-use Rattle.lists.specs.Steps.{Or, is, andThen, given}
+use Rattle.refusals.specs.Steps.{Or, is, andThen, given}
 use Rattle.netpbm.specs.Header.{takeWord, takeWhite, takeSpaced}
 use Rattle.netpbm.specs.Raster.{Raster, sized}
 

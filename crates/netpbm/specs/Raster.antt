@@ -5,7 +5,7 @@ use mathlib.Core.List.{List}
 use lib.ListN.{length}
 use lib.Dec.{eqb}
 use Rattle.options.specs.Limits.{isSide}
-use Rattle.lists.specs.Steps.{Or, refused, given}
+use Rattle.refusals.specs.Steps.{Or, refused, given}
 
 -- what a file holds: rows from the top down
 pub record Raster (A : Type 0) : Type 0 where

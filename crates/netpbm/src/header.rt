@@ -5,7 +5,7 @@ ghost use Prim.Native.Nat.{_+_, _-_, _*_, _≤_};
 ghost use lib.ListN.{length, drop};
 ghost use Rattle.texts.specs.Digits.{isDigit, allDigits, decimalFrom};
 ghost use Rattle.netpbm.specs.Header.{startsWith, isWhite, endsLine, afterBlanks, afterComment, digitsOf, takeNumber, takeSpaced, takeEnded};
-ghost use Rattle.netpbm.specs.Answers.{numberMost, held, Place, FoundAs};
+ghost use Rattle.netpbm.specs.Inner.{numberMost, held, Place, FoundAs};
 
 // A number may have any count of digits; it is held as this one where it is above it.
 const NUMBER_MOST: u64 = 65536;

@@ -7,7 +7,7 @@ ghost use lib.ListN.{length, take, drop};
 ghost use lib.Ieee.{binary32, toBits, ofBits};
 ghost use Rattle.lists.specs.Stores.{Wrote};
 ghost use Rattle.netpbm.specs.Order.{patternOf, fourBytes, fourPattern};
-ghost use Rattle.netpbm.specs.Pfm.{outward, inward, cellBytes, cellOf};
+ghost use Rattle.netpbm.specs.Pfm.{outward, inward, cellBytes, fileCell};
 
 // Which byte of a number comes first: its lowest or its highest.
 pub enum Order {
@@ -93,7 +93,7 @@ pub fn put_cell(order: Order, x: f32, out: &mut [u8], at: usize) -> usize
 // The cell whose bytes stand at a place.
 pub fn cell_at(order: Order, s: &[u8], at: usize) -> f32
     requires { ⌜ at + 4 ≤ length (now s) ⌝ }
-    ensures { λ r. ⌜ r ≡ cellOf order (take 4 (drop at (now (s .entry)))) ⌝ }
+    ensures { λ r. ⌜ r ≡ fileCell order (take 4 (drop at (now (s .entry)))) ⌝ }
 {
     inward_cell(pattern_at(order, s, at))
 }

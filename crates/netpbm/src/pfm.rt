@@ -12,9 +12,9 @@ ghost use mathlib.Core.Path.{_≡_};
 ghost use Prim.Native.Nat.{_*_};
 ghost use lib.ListN.{length};
 ghost use Rattle.lists.specs.Rows.{bottomUp};
-ghost use Rattle.netpbm.specs.Pfm.{takePfmHead, cellsOf, readPfm};
-ghost use Rattle.netpbm.specs.Outcome.{sizeOf, ReadDone};
-ghost use Rattle.netpbm.specs.Answers.{PfmAs, MapAs};
+ghost use Rattle.netpbm.specs.Pfm.{takePfmHead, fileCells, readPfm};
+ghost use Rattle.netpbm.specs.Outcome.{sizeOf, ReadOutcome};
+ghost use Rattle.netpbm.specs.Inner.{PfmAs, MapAs};
 
 // Order, width and height that were found, and the place past the header.
 pub enum FoundPfm {
@@ -63,7 +63,7 @@ fn judge_pfm(s: &[u8]) -> Map
 // Reads a row's cells.
 fn fill_row(order: Order, s: &[u8], out: &mut [f32])
     requires { ⌜ length (now s) ≡ 4 * length (now out) ⌝ }
-    ensures { λ _. ⌜ now (out .exit) ≡ cellsOf order (length (now (out .entry))) (now (s .entry)) ⌝ }
+    ensures { λ _. ⌜ now (out .exit) ≡ fileCells order (length (now (out .entry))) (now (s .entry)) ⌝ }
 {
     for i in 0..out.len() {
         out[i] = cell_at(order, s, 4 * i);
@@ -74,7 +74,7 @@ fn fill_row(order: Order, s: &[u8], out: &mut [f32])
 fn fill_rows(order: Order, width: usize, height: usize, s: &[u8], out: &mut [f32])
     requires { ⌜ length (now out) ≡ width * height ⌝ }
     requires { ⌜ length (now s) ≡ 4 * (width * height) ⌝ }
-    ensures { λ _. ⌜ now (out .exit) ≡ bottomUp width height (cellsOf order (width * height) (now (s .entry))) ⌝ }
+    ensures { λ _. ⌜ now (out .exit) ≡ bottomUp width height (fileCells order (width * height) (now (s .entry))) ⌝ }
 {
     let t = &s[..];
     let mut from: usize = 0;
@@ -99,7 +99,7 @@ pub fn pfm_size(s: &[u8]) -> Size
 
 // Reads a map's cells into `out`, which is to be as long as the map.
 pub fn read_pfm(s: &[u8], out: &mut [f32]) -> Size
-    ensures { λ r. ⌜ ReadDone r (readPfm (now (s .entry))) (now (out .entry)) (now (out .exit)) ⌝ }
+    ensures { λ r. ⌜ ReadOutcome r (readPfm (now (s .entry))) (now (out .entry)) (now (out .exit)) ⌝ }
 {
     match judge_pfm(s) {
         Map::Refused(n) => Size::Refused(n),

@@ -10,11 +10,11 @@ ghost use mathlib.Core.Path.{_≡_};
 ghost use mathlib.Core.Bool.{true, false};
 ghost use Prim.Native.Nat.{_+_, _≤_};
 ghost use lib.ListN.{length, drop};
-ghost use Rattle.lists.specs.Steps.{is, refused};
+ghost use Rattle.refusals.specs.Steps.{is, refused};
 ghost use Rattle.netpbm.specs.Header.{takeWhite};
 ghost use Rattle.netpbm.specs.Pgm.{takePgmHead, readPgm};
-ghost use Rattle.netpbm.specs.Outcome.{sizeOf, ReadDone};
-ghost use Rattle.netpbm.specs.Answers.{PgmAs, PictureAs};
+ghost use Rattle.netpbm.specs.Outcome.{sizeOf, ReadOutcome};
+ghost use Rattle.netpbm.specs.Inner.{PgmAs, PictureAs};
 
 // The largest level, which is the only maximum that is read.
 const MAXIMUM: u64 = 255;
@@ -89,7 +89,7 @@ pub fn pgm_size(s: &[u8]) -> Size
 
 // Reads a picture's levels into `out`, which is to be as long as the picture.
 pub fn read_pgm(s: &[u8], out: &mut [u8]) -> Size
-    ensures { λ r. ⌜ ReadDone r (readPgm (now (s .entry))) (now (out .entry)) (now (out .exit)) ⌝ }
+    ensures { λ r. ⌜ ReadOutcome r (readPgm (now (s .entry))) (now (out .entry)) (now (out .exit)) ⌝ }
 {
     match judge_pgm(s) {
         Picture::Refused(n) => Size::Refused(n),

@@ -1,7 +1,7 @@
 // A raster's size, judged with the count of its bytes.
 use options::is_side;
 ghost use Prim.Native.Nat.{_≤_};
-ghost use Rattle.netpbm.specs.Answers.{SizedAs};
+ghost use Rattle.netpbm.specs.Inner.{SizedAs};
 
 // A width and a height, or the refusal.
 pub enum Size {

@@ -7,7 +7,7 @@ ghost use mathlib.Core.Path.{_≡_};
 ghost use Prim.Native.Nat.{_≤_};
 ghost use lib.ListN.{length, drop};
 ghost use Rattle.netpbm.specs.Pfm.{takeSign, takeFraction, takeScale};
-ghost use Rattle.netpbm.specs.Answers.{Place, FoundAs, ScaleAs};
+ghost use Rattle.netpbm.specs.Inner.{Place, FoundAs, ScaleAs};
 
 // The order that was found and the place past the line.
 pub enum FoundScale {

@@ -1,8 +1,8 @@
 // Writing a PFM map: its size and the output's length are judged first, so that a refusal comes before any byte is written.
 use crate::order::Order;
 use crate::order::put_cell;
-use lists::Written;
-use maps::size_good;
+use maps::size_refusal;
+use refusals::Written;
 use texts::places;
 use texts::put_byte;
 use texts::put_bytes;
@@ -12,7 +12,7 @@ ghost use Prim.Native.Nat.{_+_, _*_, _≤_};
 ghost use lib.ListN.{length};
 ghost use Rattle.lists.specs.Rows.{bottomUp};
 ghost use Rattle.lists.specs.Stores.{Wrote};
-ghost use Rattle.lists.specs.Writes.{byteCount, WriteDone};
+ghost use Rattle.refusals.specs.Writes.{byteCount, WriteOutcome};
 ghost use Rattle.netpbm.specs.Pfm.{cellsBytes, pfmHead, pfmOf};
 
 // How many bytes the header takes.
@@ -26,11 +26,11 @@ fn head_length(width: usize, height: usize) -> usize
 pub fn pfm_length(cells: &[f32], width: usize, height: usize) -> Written
     ensures { λ r. ⌜ r ≡ byteCount (pfmOf width height (now (cells .entry))) ⌝ }
 {
-    if size_good(width, height, cells.len()) {
-        Written::Bytes(head_length(width, height) + 4 * cells.len())
-    } else {
-        Written::Refused(23)
+    let refused = size_refusal(width, height, cells.len());
+    if refused != 0 {
+        return Written::Refused(refused);
     }
+    Written::Bytes(head_length(width, height) + 4 * cells.len())
 }
 
 // Puts the header at the front of `out`, and answers the place past it.
@@ -85,7 +85,7 @@ fn put_rows(
 
 // Writes the file of a map at the front of `out`, and answers its byte count; bytes beyond it are left as they were.
 pub fn write_pfm(cells: &[f32], width: usize, height: usize, out: &mut [u8]) -> Written
-    ensures { λ r. ⌜ WriteDone 45 r (pfmOf width height (now (cells .entry))) (now (out .entry)) (now (out .exit)) ⌝ }
+    ensures { λ r. ⌜ WriteOutcome 45 r (pfmOf width height (now (cells .entry))) (now (out .entry)) (now (out .exit)) ⌝ }
 {
     match pfm_length(cells, width, height) {
         Written::Refused(n) => Written::Refused(n),

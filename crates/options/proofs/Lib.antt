@@ -1,2 +1,4 @@
 -- Lemmas that belong to no one function.
+pub mod Frames
+pub mod Sides
 pub mod Stored

@@ -1,7 +1,7 @@
 -- The sizes allowed: document 01, "Sizes and rooms". Definitions only.
-use Prim.Native.Nat.{ℕ, _+_}
-use mathlib.Core.Bool.{Bool, false, _&&_}
-use lib.Dec.{leb}
+use Prim.Native.Nat.{ℕ, _+_, _%_}
+use mathlib.Core.Bool.{Bool, false, _&&_, _||_}
+use lib.Dec.{leb, ltb, eqb}
 use lib.IntN.{pos}
 use lib.Ieee.{Float, fin, le}
 
@@ -16,6 +16,18 @@ isSide n = leb 1 n && leb n sideMost
 -- the block's side
 abbrev pub blockMost : ℕ
 blockMost = 31
+
+-- a block side that is zero or even
+abbrev pub blockEven : ℕ → Bool
+blockEven block = eqb (block % 2) 0
+
+-- a block side over its limit
+abbrev pub blockLarge : ℕ → Bool
+blockLarge block = ltb blockMost block
+
+-- a picture, or a map, narrower or lower than the block
+abbrev pub tooSmall : ℕ → ℕ → ℕ → Bool
+tooSmall w h block = ltb w block || ltb h block
 
 -- disparities searched
 abbrev pub countMost : ℕ

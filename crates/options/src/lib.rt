@@ -1,7 +1,8 @@
 // What a match is asked for: the options, the raw cost as a type, and the sizes allowed.
 ghost use mathlib.Core.Path.{_≡_};
-ghost use Rattle.options.specs.Limits.{isSide};
-ghost use Rattle.options.specs.Options.{defaultOptions};
+ghost use Rattle.options.specs.Limits.{isSide, blockEven, blockLarge, tooSmall};
+ghost use Rattle.options.specs.Frame.{within, inFrame};
+ghost use Rattle.options.specs.Options.{modeOf, usesPaths, defaultOptions};
 ghost use Rattle.options.specs.Costs.{stored, rawOf};
 
 // The sizes allowed (document 01, "Sizes and rooms"): width and height, the block's side, disparities searched, the first
@@ -24,6 +25,51 @@ pub fn is_side(n: usize) -> bool
         return false;
     }
     n <= SIDE_MOST
+}
+
+// A block side that is zero or even.
+pub fn is_block_even(block: usize) -> bool
+    ensures { λ t. ⌜ t ≡ blockEven block ⌝ }
+{
+    block % 2 == 0
+}
+
+// A block side over its limit.
+pub fn is_block_large(block: usize) -> bool
+    ensures { λ t. ⌜ t ≡ blockLarge block ⌝ }
+{
+    BLOCK_MOST < block
+}
+
+// A picture, or a map, narrower or lower than the block.
+pub fn is_too_small(w: usize, h: usize, block: usize) -> bool
+    ensures { λ t. ⌜ t ≡ tooSmall w h block ⌝ }
+{
+    if w < block { true } else { h < block }
+}
+
+// A window centred at x lies within n pixels: r ≤ x < n - r.
+pub fn is_within(n: usize, r: usize, x: usize) -> bool
+    ensures { λ t. ⌜ t ≡ within n r x ⌝ }
+{
+    if x < r {
+        return false;
+    }
+    if n < r {
+        return false;
+    }
+    x < n - r
+}
+
+// The inner frame: r ≤ x < w - r and r ≤ y < h - r.
+pub fn is_inner(w: usize, h: usize, r: usize, x: usize, y: usize) -> bool
+    ensures { λ t. ⌜ t ≡ inFrame w h r x y ⌝ }
+{
+    if is_within(w, r, x) {
+        is_within(h, r, y)
+    } else {
+        false
+    }
 }
 
 // A raw cost: blank, or a correlation.
@@ -61,6 +107,35 @@ pub enum Side {
     Right,
 }
 
+// How a disparity is chosen: by the raw costs themselves, or by costs added up along eight paths.
+pub enum Mode {
+    Block,
+    SemiGlobal,
+}
+
+impl Mode {
+    // The mode of a flag, as hosts and the print program give it: semi-global or not.
+    pub fn of_flag(semi_global: bool) -> Mode
+        ensures { λ m. ⌜ m ≡ modeOf «semi_global» ⌝ }
+    {
+        if semi_global {
+            Mode::SemiGlobal
+        } else {
+            Mode::Block
+        }
+    }
+
+    // Whether costs are added up along paths: then penalties are read, and the float room is the larger one.
+    pub fn uses_paths(self) -> bool
+        ensures { λ t. ⌜ t ≡ usesPaths self ⌝ }
+    {
+        match self {
+            Mode::Block => false,
+            Mode::SemiGlobal => true,
+        }
+    }
+}
+
 // The options of a match.
 pub struct BlockMatchOptions {
     // The first disparity, in pixels, and how many are searched.
@@ -77,8 +152,8 @@ pub struct BlockMatchOptions {
     pub lr_max_diff: f32,
     // Whether a disparity is refined by its neighbours.
     pub subpixel: bool,
-    // Whether costs are added up along eight paths, with penalties for a step of 1 and for a larger one.
-    pub semi_global: bool,
+    // How a disparity is chosen, and the penalties along a path for a step of 1 and for a larger one.
+    pub mode: Mode,
     pub sgm_p1: f32,
     pub sgm_p2: f32,
 }
@@ -102,7 +177,7 @@ impl BlockMatchOptions {
             lr_consistency: true,
             lr_max_diff: 1.0,
             subpixel: true,
-            semi_global: false,
+            mode: Mode::Block,
             sgm_p1: 0.1,
             sgm_p2: 1.5,
         }

@@ -19,7 +19,7 @@ use Rattle.paths.specs.declared.direction.Place.{Place}
 use Rattle.paths.specs.declared.direction.Place.the-variants.{At, Nowhere}
 use Rattle.paths.specs.Bounds.{UpTo, All}
 use Rattle.paths.specs.Path.{leastFrom, leastOf, fromBelow, fromAbove, bestOf, stepCell, stepVec, addVec}
-use Rattle.paths.specs.Walk.{previousOf, pathFrom, cellsOf, walkAlong, pathWithin, pathAt, joined, pathVolume, pixelsIn, cellsIn, Direction, directions, addPaths, pathSums, zeros}
+use Rattle.paths.specs.Walk.{previousOf, pathFrom, pathCells, walkAlong, pathWithin, pathAt, joined, pathVolume, pixelsIn, cellsIn, Direction, directions, addPaths, pathSums, zeros}
 use Rattle.paths.proofs.Steps.{length-sum}
 use Rattle.paths.proofs.Places.{previous-in}
 use Rattle.paths.proofs.Walks.{cells-length, within-length, volume-length}
@@ -222,19 +222,19 @@ step-range p1 p2 k1 k2 prev cost e s a b = all-listOf (UpTo 1027) (length cost) 
 
 module _ (k : Walk) (c : List Float) (dir : Direction (k .dx) (k .dy)) (k1 : Adds (k .p1)) (k2 : Adds (k .p2)) (some : 0 < k .count)
     (size : length c ≡ cellsIn k) (costs : All (UpTo 2) c) where
-  cells-range : (p : ℕ) → All (UpTo 2) (cellsOf (k .count) c p)
+  cells-range : (p : ℕ) → All (UpTo 2) (pathCells (k .count) c p)
   cells-range p = all-take (UpTo 2) (k .count) (drop (p * k .count) c) (all-drop (UpTo 2) (p * k .count) c costs)
 
   from-range : (f : ℕ → List Float) (p : ℕ) → p < pixelsIn k → (a : Place) → ((q : ℕ) → a ≡ At q → (length (f q) ≡ k .count) × All (UpTo 1027) (f q))
-      → All (UpTo 1027) (pathFrom k f (cellsOf (k .count) c p) a)
+      → All (UpTo 1027) (pathFrom k f (pathCells (k .count) c p) a)
   from-range f p hp (At q) h =
       let b = h q refl in
-      step-range (k .p1) (k .p2) k1 k2 (f q) (cellsOf (k .count) c p) (b .0 ∙ sym (cells-length k c size p hp)) (omega (arith, b .0)) (b .1) (cells-range p)
-  from-range f p hp Nowhere h = all-more 2 1027 (cellsOf (k .count) c p) (lit≤ tt) (cells-range p)
+      step-range (k .p1) (k .p2) k1 k2 (f q) (pathCells (k .count) c p) (b .0 ∙ sym (cells-length k c size p hp)) (omega (arith, b .0)) (b .1) (cells-range p)
+  from-range f p hp Nowhere h = all-more 2 1027 (pathCells (k .count) c p) (lit≤ tt) (cells-range p)
 
   within-range : (n p : ℕ) → p < pixelsIn k → All (UpTo 1027) (pathWithin k c n p)
   unfolding pathWithin
-  within-range zero p hp = all-more 2 1027 (cellsOf (k .count) c p) (lit≤ tt) (cells-range p)
+  within-range zero p hp = all-more 2 1027 (pathCells (k .count) c p) (lit≤ tt) (cells-range p)
   within-range (suc n) p hp =
       from-range (pathWithin k c n) p hp (previousOf k p)
       (λ q e. let hq = previous-in k dir p hp q e in (within-length k c size n q hq, within-range n q hq))

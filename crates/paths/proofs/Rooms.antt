@@ -10,7 +10,7 @@ use lib.Ieee.{Float, nan}
 use Rattle.paths.specs.declared.direction.Walk.{Walk}
 use Rattle.paths.specs.Path.{addVec}
 use Rattle.paths.specs.Room.{run, put, Runs, Room, SumsMade}
-use Rattle.paths.specs.Walk.{cellsOf, slotOf, slotPath, pathVolume, pixelsIn, cellsIn, isForward, Direction}
+use Rattle.paths.specs.Walk.{pathCells, slotOf, slotPath, pathVolume, pixelsIn, cellsIn, isForward, Direction}
 use Rattle.paths.proofs.Parts.{length-run, getD-run, same-run, length-put, run-put, run-out, put-run, put-inner, put-swap}
 use Rattle.paths.proofs.Steps.{length-sum}
 use Rattle.paths.proofs.Places.{turn-in}
@@ -20,7 +20,7 @@ use Rattle.paths.proofs.Walks.{cells-end, cells-apart, cells-length, sl
 -- ---- the runs of pixels in volumes of n pixels of m cells
 
 module _ (v : List Float) (n m : ℕ) (p : ℕ) (hp : p < n) where
-  pub cells-in-run : (b : ℕ) → b + n * m ≤ length v → cellsOf m (run (n * m) b v) p ≡ run m (b + p * m) v
+  pub cells-in-run : (b : ℕ) → b + n * m ≤ length v → pathCells m (run (n * m) b v) p ≡ run m (b + p * m) v
   cells-in-run b hb =
       let end = cells-end n m p hp in
       same-run m (p * m) (b + p * m) (run (n * m) b v) v (omega (arith, length-run (n * m) b v hb)) (omega arith)
@@ -65,14 +65,14 @@ module _ {v : List Float} {n m costs paths sums : ℕ} (room : Room v (n * m) co
       record { a-in = omega (arith, ends .a-in); b-in = omega (arith, ends .b-in); apart = ends .apart }
 
   pub both-stores : (v₂ : List Float) → v₂ ≡ put first (sums + p * m) (addVec (run m (sums + p * m) first) (run m (paths + q * m) first))
-      → v₂ ≡ put (put v (paths + q * m) vec) (sums + p * m) (addVec (cellsOf m (run (n * m) sums v) p) vec)
+      → v₂ ≡ put (put v (paths + q * m) vec) (sums + p * m) (addVec (pathCells m (run (n * m) sums v) p) vec)
   both-stores v₂ e =
       e
       ∙ ap (λ (z : List Float). put first (sums + p * m) (addVec z (run m (paths + q * m) first)))
       (run-out v (paths + q * m) vec vec-in m (sums + p * m) (ends .b-in)
       (⊎-elim (λ (z : paths + q * m + m ≤ sums + p * m). inr (omega arith)) (λ (z : sums + p * m + m ≤ paths + q * m). inl z) (ends .apart))
       ∙ sym (cells-in-run v n m p hp sums (room .paths-sums .b-in)))
-      ∙ ap (λ (z : List Float). put first (sums + p * m) (addVec (cellsOf m (run (n * m) sums v) p) z)) (run-put v (paths + q * m) vec vec-in m (sym hl))
+      ∙ ap (λ (z : List Float). put first (sums + p * m) (addVec (pathCells m (run (n * m) sums v) p) z)) (run-put v (paths + q * m) vec vec-in m (sym hl))
 
 -- ---- two volumes replaced, by l and by s
 
@@ -158,12 +158,12 @@ module _ (k : Walk) {costs paths sums : ℕ} {v₀ : List Float} (room : Room v�
 
     pub sweep-more : Direction (k .dx) (k .dy) → t < pixelsIn k → (p : ℕ) → p ≡ cond (isForward (k .dx) (k .dy)) t (pixelsIn k - 1 - t) → (v′ : List Float)
         → v′ ≡ put (put v (paths + slotOf (k .w) p * k .count) (slotPath k (run n paths v) (run n costs v) p)) (sums + p * k .count)
-        (addVec (cellsOf (k .count) (run n sums v) p) (slotPath k (run n paths v) (run n costs v) p))
+        (addVec (pathCells (k .count) (run n sums v) p) (slotPath k (run n paths v) (run n costs v) p))
         → Sweep k costs paths sums v₀ v′ (t + 1)
     sweep-more dir ht p ep v′ e =
         let c = run n costs v₀ in
         let vec = slotPath k (w .l) c p in
-        let total = addVec (cellsOf (k .count) (w .s) p) vec in
+        let total = addVec (pathCells (k .count) (w .s) p) vec in
         let hc = length-run n costs v₀ (room .costs-paths .a-in) in
         let hp : p < pixelsIn k = rw ep (turn-in (isForward (k .dx) (k .dy)) (pixelsIn k) t ht) in
         let slot : ℕ = slotOf (k .w) p in
@@ -180,7 +180,7 @@ module _ (k : Walk) {costs paths sums : ℕ} {v₀ : List Float} (room : Room v�
               ∙ ap (λ (z : List Float). put z (sums + p * k .count) total)
               (put-paths room (w .l) (w .s) (w .visited .l-length) (w .visited .s-length) (slot * k .count) vec (omega (arith, slot-length k c hc (w .l) p hp)))
               ∙ put-sums room one (w .s) (next .l-length) (w .visited .s-length) (p * k .count) total
-              (omega (arith, length-sum (cellsOf (k .count) (w .s) p) vec, cells-length k (w .s) (w .visited .s-length) p hp));
+              (omega (arith, length-sum (pathCells (k .count) (w .s) p) vec, cells-length k (w .s) (w .visited .s-length) p hp));
           visited = next;
         }
 

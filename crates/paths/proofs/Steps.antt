@@ -13,7 +13,7 @@ use lib.Seq.{drop-cons, paste, paste-zero, length-paste, getD-drop}
 use lib.Ieee.{Float, nan, inf, binary32, add}
 use Rattle.numbers.specs.Plain.{smallerOf}
 use Rattle.lists.proofs.Lists.{listOf-length, listOf-at}
-use Rattle.paths.specs.Path.{leastFrom, leastOf, fromBelow, fromAbove, bestOf, cellOf, stepCell, stepVec, addVec}
+use Rattle.paths.specs.Path.{leastFrom, leastOf, fromBelow, fromAbove, bestOf, pathCell, stepCell, stepVec, addVec}
 use Rattle.paths.specs.Room.{run, put, Runs}
 use Rattle.paths.proofs.Parts.{length-run, getD-run, out-paste, run-paste, paste-paste, paste-all, paste-turn, apart-kept}
 
@@ -68,7 +68,7 @@ above-none p1 n at v k hv h = rw (length-run n at v hv, le-ltb (k + 1) n h)
 -- a cell that is made of the values of both runs
 pub cell-is : (p1 p2 m below above : Float) (n prev cost : ℕ) (v : List Float) (k : ℕ) → k < n → m ≡ leastOf (run n prev v)
     → below ≡ fromBelow p1 (run n prev v) k → above ≡ fromAbove p1 (run n prev v) k
-    → cellOf (getD v (cost + k) nan) (bestOf (getD v (prev + k) nan) below above (add binary32 m p2)) m ≡ stepCell p1 p2 (run n prev v) (run n cost v) k
+    → pathCell (getD v (cost + k) nan) (bestOf (getD v (prev + k) nan) below above (add binary32 m p2)) m ≡ stepCell p1 p2 (run n prev v) (run n cost v) k
 unfolding stepCell
 cell-is p1 p2 m below above n prev cost v k h em eb ea = rw (em, eb, ea, getD-run n cost v k nan h, getD-run n prev v k nan h)
 
@@ -142,7 +142,7 @@ module _ {v₀ : List Float} {prev cost at count : ℕ} {p1 p2 m : Float} (s : S
         (⊎-elim (λ (b : q + count ≤ at). inl (omega arith)) (λ (b : at + count ≤ q). inr (omega arith)) (r .apart))
 
     pub inner-turn : (r : Float)
-        → r ≡ cellOf (getD v (cost + k) nan) (bestOf (getD v (prev + k) nan) (add binary32 (getD v (prev + (k - 1)) nan) p1) (add binary32 (getD v (prev + (k + 1)) nan) p1) (add binary32 m p2)) m
+        → r ≡ pathCell (getD v (cost + k) nan) (bestOf (getD v (prev + k) nan) (add binary32 (getD v (prev + (k - 1)) nan) p1) (add binary32 (getD v (prev + (k + 1)) nan) p1) (add binary32 m p2)) m
         → set v (at + k) r ≡ paste v₀ (at + 1) (drop 1 (made s)) (k + 1 - 1)
     inner-turn r er =
         let rp = s .prev-at in

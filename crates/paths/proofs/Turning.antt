@@ -2,7 +2,7 @@
 use Prim.Native.Nat.{ℕ, zero, suc, _+_, _-_, _*_, _/_, _%_, _<_, _≤_, zero-le}
 use mathlib.Core.Path.{_≡_, refl, sym, ap, _∙_}
 use mathlib.Core.List.{List}
-use mathlib.Core.Logic.{_⊎_, ⊎-elim, inl, inr}
+use mathlib.Core.Logic.{⊎-elim, inl, inr}
 use native.Mathlib.Nat.{mul-assoc, mul-comm, mod-lt, div-add-mod', add-mul}
 use native.Mathlib.Omega.{arith}
 use borrow.Author.Tests.{lt-ltb, le-ltb}
@@ -28,39 +28,39 @@ use Rattle.paths.proofs.Walks.{cells-end}
 use Rattle.paths.proofs.Blocks.{row-cell, block-length, block-turn, block-done}
 use Rattle.paths.proofs.Rooms.{pixel-runs}
 
--- ---- 4096 - first
+-- ---- firstMost - first
 
 record Shift (first : ℤ) : Type 0 where
   n : ℕ
-  is : pos 4096 -ℤ first ≡ pos n
-  most : n ≤ 8192
+  is : pos firstMost -ℤ first ≡ pos n
+  most : n ≤ 2 * firstMost
   fits : SFits w32 first
 
 shift : (first : ℤ) → natAbs first ≤ firstMost → Shift first
-shift (pos zero) h = record { n = 4096 + 0; is = refl; most = omega arith; fits = record { sfits = omega arith } }
-shift (pos (suc f)) h = record { n = 4096 - suc f; is = rw (le-ltb 4096 (suc f) h); most = omega arith; fits = record { sfits = omega arith } }
-shift (negsuc f) h = record { n = 4096 + suc f; is = refl; most = omega arith; fits = record { sfits = omega arith } }
+shift (pos zero) h = record { n = firstMost + 0; is = refl; most = omega arith; fits = record { sfits = omega arith } }
+shift (pos (suc f)) h = record { n = firstMost - suc f; is = rw (le-ltb firstMost (suc f) h); most = omega arith; fits = record { sfits = omega arith } }
+shift (negsuc f) h = record { n = firstMost + suc f; is = refl; most = omega arith; fits = record { sfits = omega arith } }
 
 module _ (first : ℤ) (h : natAbs first ≤ firstMost) where
-  same-first : pos 4096 -ℤ toZ w32 (ofZ w32 first) ≡ pos (shift first h .n)
-  same-first = ap (λ (z : ℤ). pos 4096 -ℤ z) (toZ-ofZ w32 first (shift first h .fits)) ∙ shift first h .is
+  same-first : pos firstMost -ℤ toZ w32 (ofZ w32 first) ≡ pos (shift first h .n)
+  same-first = ap (λ (z : ℤ). pos firstMost -ℤ z) (toZ-ofZ w32 first (shift first h .fits)) ∙ shift first h .is
 
-  pub shift-fits : SFits w32 (pos 4096 -ℤ toZ w32 (ofZ w32 first))
+  pub shift-fits : SFits w32 (pos firstMost -ℤ toZ w32 (ofZ w32 first))
   shift-fits = rw same-first (record { sfits = omega (arith, shift first h .most) })
 
-  same-shift : toZ w32 (ofZ w32 (pos 4096 -ℤ toZ w32 (ofZ w32 first))) ≡ pos (shift first h .n)
-  same-shift = toZ-ofZ w32 (pos 4096 -ℤ toZ w32 (ofZ w32 first)) shift-fits ∙ same-first
+  same-shift : toZ w32 (ofZ w32 (pos firstMost -ℤ toZ w32 (ofZ w32 first))) ≡ pos (shift first h .n)
+  same-shift = toZ-ofZ w32 (pos firstMost -ℤ toZ w32 (ofZ w32 first)) shift-fits ∙ same-first
 
-  pub shift-casts : let z = toZ w32 (ofZ w32 (pos 4096 -ℤ toZ w32 (ofZ w32 first))) in T (nonNeg z) × Fits w64 (natAbs z)
+  pub shift-casts : let z = toZ w32 (ofZ w32 (pos firstMost -ℤ toZ w32 (ofZ w32 first))) in T (nonNeg z) × Fits w64 (natAbs z)
   shift-casts = rw same-shift (tt, record { fits = omega (arith, shift first h .most) })
 
-  pub shift-is : pos (natAbs (toZ w32 (ofZ w32 (pos 4096 -ℤ toZ w32 (ofZ w32 first))))) ≡ pos firstMost -ℤ first
+  pub shift-is : pos (natAbs (toZ w32 (ofZ w32 (pos firstMost -ℤ toZ w32 (ofZ w32 first))))) ≡ pos firstMost -ℤ first
   shift-is = rw same-shift (sym (shift first h .is))
 
-  pub shift-most : (n : ℕ) → pos n ≡ pos firstMost -ℤ first → n ≤ 8192
+  pub shift-most : (n : ℕ) → pos n ≡ pos firstMost -ℤ first → n ≤ 2 * firstMost
   shift-most n e = let s = shift first h in let same : pos n ≡ pos (s .n) = e ∙ s .is in let k : n ≡ s .n = cc in omega (arith, s .most)
 
--- ---- the column, counted from 4096 + k to the left
+-- ---- the column, counted from firstMost + k to the left
 
 minus-pos : (a b : ℕ) → pos a +ℤ negℤ (pos b) ≡ subℕ a b
 minus-pos a zero = let e : a + 0 ≡ a - 0 = omega arith in rw (le-ltb a 0 zero-le, e)
@@ -75,16 +75,16 @@ sub-same a b c d e =
 
 column-is : (first : ℤ) → natAbs first ≤ firstMost → (n : ℕ) → pos n ≡ pos firstMost -ℤ first → (x k : ℕ) → pos x +ℤ negℤ (first +ℤ pos k) ≡ subℕ (x + n) (firstMost + k)
 column-is (pos f) h n e x k =
-    let back : pos n ≡ pos (4096 - f) = e ∙ minus-pos 4096 f ∙ rw (le-ltb 4096 f h) in
-    let m : n ≡ 4096 - f = cc in
-    minus-pos x (f + k) ∙ sub-same x (f + k) (x + n) (4096 + k) (omega arith)
+    let back : pos n ≡ pos (firstMost - f) = e ∙ minus-pos firstMost f ∙ rw (le-ltb firstMost f h) in
+    let m : n ≡ firstMost - f = cc in
+    minus-pos x (f + k) ∙ sub-same x (f + k) (x + n) (firstMost + k) (omega arith)
 column-is (negsuc f) h n e x k =
-    let m : n ≡ 4096 + suc f = cc in
+    let m : n ≡ firstMost + suc f = cc in
     ⊎-elim
-    (λ (l : k < suc f). let s : x + suc (suc f - suc k) ≡ x + n - (4096 + k) = omega arith in
-    let r : 4096 + k ≤ x + n = omega arith in
-    rw (lt-ltb k (suc f) l, le-ltb (x + n) (4096 + k) r, s))
-    (λ (l : suc f ≤ k). rw (le-ltb k (suc f) l) (minus-pos x (k - suc f) ∙ sub-same x (k - suc f) (x + n) (4096 + k) (omega arith)))
+    (λ (l : k < suc f). let s : x + suc (suc f - suc k) ≡ x + n - (firstMost + k) = omega arith in
+    let r : firstMost + k ≤ x + n = omega arith in
+    rw (lt-ltb k (suc f) l, le-ltb (x + n) (firstMost + k) r, s))
+    (λ (l : suc f ≤ k). rw (le-ltb k (suc f) l) (minus-pos x (k - suc f) ∙ sub-same x (k - suc f) (x + n) (firstMost + k) (omega arith)))
     (lt-or-le k (suc f))
 
 -- ---- one cell

@@ -16,7 +16,7 @@ use Rattle.paths.specs.declared.direction.Place.{Place}
 use Rattle.paths.specs.declared.direction.Place.the-variants.{At, Nowhere}
 use Rattle.paths.specs.Path.{stepVec, addVec}
 use Rattle.paths.specs.Room.{run, put}
-use Rattle.paths.specs.Walk.{previousOf, pathFrom, cellsOf, slotOf, slotPath, pathWithin, pathAt, joined, pathVolume, pixelsIn, cellsIn, isForward, Direction}
+use Rattle.paths.specs.Walk.{previousOf, pathFrom, pathCells, slotOf, slotPath, pathWithin, pathAt, joined, pathVolume, pixelsIn, cellsIn, isForward, Direction}
 use Rattle.paths.proofs.Parts.{length-run, getD-run, run-put, run-out, length-put}
 use Rattle.paths.proofs.Steps.{length-step, length-sum, getD-sum}
 use Rattle.paths.proofs.Places.{rank, previous-in, previous-earlier, previous-near, turn-in, rank-turn, rank-one, rank-below}
@@ -41,23 +41,23 @@ module _ (k : Walk) (c : List Float) (dir : Direction (k .dx) (k .dy)) where
   settled : (n p : ℕ) → p < pixelsIn k → rank k p ≤ n → pathWithin k c (suc n) p ≡ pathWithin k c n p
   unfolding pathWithin
   settled zero p hp r =
-      from-start k (pathWithin k c zero) (pathWithin k c zero) (cellsOf (k .count) c p) (previousOf k p) (λ q e. let o = previous-earlier k dir p hp q e in omega arith)
+      from-start k (pathWithin k c zero) (pathWithin k c zero) (pathCells (k .count) c p) (previousOf k p) (λ q e. let o = previous-earlier k dir p hp q e in omega arith)
   settled (suc n) p hp r =
-      from-same k (pathWithin k c (suc n)) (pathWithin k c n) (cellsOf (k .count) c p) (previousOf k p)
+      from-same k (pathWithin k c (suc n)) (pathWithin k c n) (pathCells (k .count) c p) (previousOf k p)
       (λ q e. settled n q (previous-in k dir p hp q e) (let o = previous-earlier k dir p hp q e in omega arith))
 
   -- L at a pixel follows from L at the previous one
-  pub path-unfolds : (p : ℕ) → p < pixelsIn k → pathAt k c p ≡ pathFrom k (pathAt k c) (cellsOf (k .count) c p) (previousOf k p)
+  pub path-unfolds : (p : ℕ) → p < pixelsIn k → pathAt k c p ≡ pathFrom k (pathAt k c) (pathCells (k .count) c p) (previousOf k p)
   unfolding pathAt pathWithin
   path-unfolds p hp = sym (settled (pixelsIn k) p hp (omega (arith, rank-below (isForward (k .dx) (k .dy)) (pixelsIn k) p hp)))
 
   -- THEOREM: at a path start L is the cost c
-  pub path-start : (p : ℕ) → p < pixelsIn k → previousOf k p ≡ Nowhere → pathAt k c p ≡ cellsOf (k .count) c p
-  path-start p hp e = path-unfolds p hp ∙ ap (pathFrom k (pathAt k c) (cellsOf (k .count) c p)) e
+  pub path-start : (p : ℕ) → p < pixelsIn k → previousOf k p ≡ Nowhere → pathAt k c p ≡ pathCells (k .count) c p
+  path-start p hp e = path-unfolds p hp ∙ ap (pathFrom k (pathAt k c) (pathCells (k .count) c p)) e
 
   -- THEOREM: else it is a step from L at the previous pixel
-  pub path-step : (p q : ℕ) → p < pixelsIn k → previousOf k p ≡ At q → pathAt k c p ≡ stepVec (k .p1) (k .p2) (pathAt k c q) (cellsOf (k .count) c p)
-  path-step p q hp e = path-unfolds p hp ∙ ap (pathFrom k (pathAt k c) (cellsOf (k .count) c p)) e
+  pub path-step : (p q : ℕ) → p < pixelsIn k → previousOf k p ≡ At q → pathAt k c p ≡ stepVec (k .p1) (k .p2) (pathAt k c q) (pathCells (k .count) c p)
+  path-step p q hp e = path-unfolds p hp ∙ ap (pathFrom k (pathAt k c) (pathCells (k .count) c p)) e
 
 -- ---- volumes, pixel by pixel
 
@@ -72,12 +72,12 @@ cells-apart m p q n =
     (λ (l : p ≤ q). ⊎-elim (λ (a : p < q). inr (cells-end q m p a)) (λ (b : q ≤ p). absurd (n (omega arith))) (lt-or-le p q))
     (lt-or-le q p)
 
-cells-later : (m : ℕ) (v : List Float) (p : ℕ) → cellsOf m (drop m v) p ≡ cellsOf m v (suc p)
+cells-later : (m : ℕ) (v : List Float) (p : ℕ) → pathCells m (drop m v) p ≡ pathCells m v (suc p)
 cells-later m v p =
     let e : m + p * m ≡ suc p * m = omega (arith, suc-mul p m) in
     ap (take m) (drop-drop (p * m) m v ∙ ap (λ (i : ℕ). drop i v) e)
 
-from-cells : (n m : ℕ) (v : List Float) (f : ℕ → List Float) → length v ≡ n * m → ((p : ℕ) → p < n → cellsOf m v p ≡ f p) → v ≡ joined n f
+from-cells : (n m : ℕ) (v : List Float) (f : ℕ → List Float) → length v ≡ n * m → ((p : ℕ) → p < n → pathCells m v p ≡ f p) → v ≡ joined n f
 from-cells zero m [] f h e = refl
 from-cells zero m (x ∷ v) f h e = absurd (let z : suc (length v) ≡ 0 = rw zero-mul at h in omega arith)
 from-cells (suc n) m v f h e =
@@ -86,8 +86,8 @@ from-cells (suc n) m v f h e =
     from-cells n m (drop m v) (λ p. f (suc p)) (omega (arith, length-drop m v, suc-mul n m)) (λ p l. cells-later m v p ∙ e (suc p) (omega arith)) in
     sym (take-append-drop m v) ∙ ap (λ (a : List Float). a ++ drop m v) first ∙ ap (λ (b : List Float). f 0 ++ b) rest
 
-same-cells : (n m : ℕ) (u v : List Float) → length u ≡ n * m → length v ≡ n * m → ((p : ℕ) → p < n → cellsOf m u p ≡ cellsOf m v p) → u ≡ v
-same-cells n m u v hu hv e = from-cells n m u (cellsOf m v) hu e ∙ sym (from-cells n m v (cellsOf m v) hv (λ p l. refl))
+same-cells : (n m : ℕ) (u v : List Float) → length u ≡ n * m → length v ≡ n * m → ((p : ℕ) → p < n → pathCells m u p ≡ pathCells m v p) → u ≡ v
+same-cells n m u v hu hv e = from-cells n m u (pathCells m v) hu e ∙ sym (from-cells n m v (pathCells m v) hv (λ p l. refl))
 
 -- a run of sums is the sum of the runs
 run-sum : (n at : ℕ) (a b : List Float) → at + n ≤ length a → at + n ≤ length b → run n at (addVec a b) ≡ addVec (run n at a) (run n at b)
@@ -111,10 +111,10 @@ module _ (n m : ℕ) (v : List Float) (p : ℕ) (r : List Float) (hp : p < n) (h
   put-length : length (put v (p * m) r) ≡ n * m
   put-length = length-put v (p * m) r there ∙ hv
 
-  put-cells : cellsOf m (put v (p * m) r) p ≡ r
+  put-cells : pathCells m (put v (p * m) r) p ≡ r
   put-cells = run-put v (p * m) r there m (sym hr)
 
-  put-others : (q : ℕ) → q < n → (q ≡ p → ⊥) → cellsOf m (put v (p * m) r) q ≡ cellsOf m v q
+  put-others : (q : ℕ) → q < n → (q ≡ p → ⊥) → pathCells m (put v (p * m) r) q ≡ pathCells m v q
   put-others q hq ne = run-out v (p * m) r there m (q * m) (omega (arith, cells-end n m q hq)) (rw hr (cells-apart m p q ne))
 
 -- ---- how long a path's costs are
@@ -127,32 +127,32 @@ length-joined (suc n) m f h =
     omega (arith, length-append (f 0) (joined n (λ p. f (suc p))), suc-mul n m)
 
 -- the cells of one of them
-cells-joined : (n m : ℕ) (f : ℕ → List Float) → ((p : ℕ) → p < n → length (f p) ≡ m) → (p : ℕ) → p < n → cellsOf m (joined n f) p ≡ f p
+cells-joined : (n m : ℕ) (f : ℕ → List Float) → ((p : ℕ) → p < n → length (f p) ≡ m) → (p : ℕ) → p < n → pathCells m (joined n f) p ≡ f p
 cells-joined zero m f h p l = absurd (not-suc-le-zero l)
 cells-joined (suc n) m f h zero l = rw zero-mul (take-at (f 0) (joined n (λ q. f (suc q))) m (h 0 l))
 cells-joined (suc n) m f h (suc p) l =
     let rest : List Float = joined n (λ q. f (suc q)) in
     sym (cells-later m (f 0 ++ rest) p)
-    ∙ ap (λ (z : List Float). cellsOf m z p) (drop-at (f 0) rest m (h 0 (omega arith)))
+    ∙ ap (λ (z : List Float). pathCells m z p) (drop-at (f 0) rest m (h 0 (omega arith)))
     ∙ cells-joined n m (λ q. f (suc q)) (λ q hq. h (suc q) (omega arith)) p (omega arith)
 
 module _ (k : Walk) (c : List Float) (size : length c ≡ cellsIn k) where
-  pub cells-length : (p : ℕ) → p < pixelsIn k → length (cellsOf (k .count) c p) ≡ k .count
+  pub cells-length : (p : ℕ) → p < pixelsIn k → length (pathCells (k .count) c p) ≡ k .count
   cells-length p hp = length-run (k .count) (p * k .count) c (omega (arith, cells-end (pixelsIn k) (k .count) p hp))
 
   pub slot-length : (l : List Float) (p : ℕ) → p < pixelsIn k → length (slotPath k l c p) ≡ k .count
-  slot-length l p hp = length-from k (λ q. cellsOf (k .count) l (slotOf (k .w) q)) (cellsOf (k .count) c p) (previousOf k p) ∙ cells-length p hp
+  slot-length l p hp = length-from k (λ q. pathCells (k .count) l (slotOf (k .w) q)) (pathCells (k .count) c p) (previousOf k p) ∙ cells-length p hp
 
   pub within-length : (n p : ℕ) → p < pixelsIn k → length (pathWithin k c n p) ≡ k .count
   unfolding pathWithin
   within-length zero p hp = cells-length p hp
-  within-length (suc n) p hp = length-from k (pathWithin k c n) (cellsOf (k .count) c p) (previousOf k p) ∙ cells-length p hp
+  within-length (suc n) p hp = length-from k (pathWithin k c n) (pathCells (k .count) c p) (previousOf k p) ∙ cells-length p hp
 
   pub volume-length : length (pathVolume k c) ≡ cellsIn k
   unfolding pathVolume pathAt
   volume-length = length-joined (pixelsIn k) (k .count) (pathAt k c) (λ p hp. within-length (pixelsIn k) p hp)
 
-  volume-cells : (p : ℕ) → p < pixelsIn k → cellsOf (k .count) (pathVolume k c) p ≡ pathAt k c p
+  volume-cells : (p : ℕ) → p < pixelsIn k → pathCells (k .count) (pathVolume k c) p ≡ pathAt k c p
   unfolding pathVolume pathAt
   volume-cells p hp = cells-joined (pixelsIn k) (k .count) (pathAt k c) (λ q hq. within-length (pixelsIn k) q hq) p hp
 
@@ -163,9 +163,9 @@ module _ (k : Walk) (c : List Float) (size : length c ≡ cellsIn k) where
 pub record Visited (k : Walk) (c s₀ l s : List Float) (t : ℕ) : Type 0 where
   pub l-length : length l ≡ cellsIn k
   pub s-length : length s ≡ cellsIn k
-  pub kept : (p : ℕ) → p < pixelsIn k → rank k p < t → t ≤ rank k p + 2 * k .w → cellsOf (k .count) l (slotOf (k .w) p) ≡ pathAt k c p
-  pub summed : (p : ℕ) → p < pixelsIn k → rank k p < t → cellsOf (k .count) s p ≡ addVec (cellsOf (k .count) s₀ p) (pathAt k c p)
-  pub waiting : (p : ℕ) → p < pixelsIn k → t ≤ rank k p → cellsOf (k .count) s p ≡ cellsOf (k .count) s₀ p
+  pub kept : (p : ℕ) → p < pixelsIn k → rank k p < t → t ≤ rank k p + 2 * k .w → pathCells (k .count) l (slotOf (k .w) p) ≡ pathAt k c p
+  pub summed : (p : ℕ) → p < pixelsIn k → rank k p < t → pathCells (k .count) s p ≡ addVec (pathCells (k .count) s₀ p) (pathAt k c p)
+  pub waiting : (p : ℕ) → p < pixelsIn k → t ≤ rank k p → pathCells (k .count) s p ≡ pathCells (k .count) s₀ p
 
 pub visited-none : (k : Walk) (c s₀ l : List Float) → length l ≡ cellsIn k → length s₀ ≡ cellsIn k → Visited k c s₀ l s₀ 0
 visited-none k c s₀ l hl hs =
@@ -187,7 +187,7 @@ module _ {k : Walk} {c s₀ l s : List Float} {t : ℕ} (dir : Direction (k .dx)
   vec = slotPath k l c p
 
   abbrev total : List Float
-  total = addVec (cellsOf m s p) vec
+  total = addVec (pathCells m s p) vec
 
   hp : p < all
   hp = rw ep (turn-in (isForward (k .dx) (k .dy)) all t ht)
@@ -203,12 +203,12 @@ module _ {k : Walk} {c s₀ l s : List Float} {t : ℕ} (dir : Direction (k .dx)
 
   vec-is : vec ≡ pathAt k c p
   vec-is =
-      from-same k (λ q. cellsOf m l (slotOf (k .w) q)) (pathAt k c) (cellsOf m c p) (previousOf k p)
+      from-same k (λ q. pathCells m l (slotOf (k .w) q)) (pathAt k c) (pathCells m c p) (previousOf k p)
       (λ q e. v .kept q (previous-in k dir p hp q e) (omega (arith, previous-earlier k dir p hp q e, rank-p)) (omega (arith, previous-near k dir p hp q e, rank-p)))
       ∙ sym (path-unfolds k c dir p hp)
 
   total-length : length total ≡ m
-  total-length = length-sum (cellsOf m s p) vec ∙ cells-length k s (v .s-length) p hp
+  total-length = length-sum (pathCells m s p) vec ∙ cells-length k s (v .s-length) p hp
 
   abbrev l′ : List Float
   l′ = put l (slot * m) vec
@@ -220,29 +220,29 @@ module _ {k : Walk} {c s₀ l s : List Float} {t : ℕ} (dir : Direction (k .dx)
   at-turn q hq r r′ = rank-one (isForward (k .dx) (k .dy)) all q p hq hp (omega (arith, rank-p))
 
   -- a slot that is taken again is that of a pixel two rows before
-  l-there : (q : ℕ) → q < all → rank k q < t → t + 1 ≤ rank k q + 2 * k .w → cellsOf m l′ (slotOf (k .w) q) ≡ cellsOf m l (slotOf (k .w) q)
+  l-there : (q : ℕ) → q < all → rank k q < t → t + 1 ≤ rank k q + 2 * k .w → pathCells m l′ (slotOf (k .w) q) ≡ pathCells m l (slotOf (k .w) q)
   l-there q hq r near =
       put-others all m l slot vec slot-here (v .l-length) vec-length (slotOf (k .w) q) (slot-in (k .w) (k .h) q hq)
       (λ e. omega (arith, rank-p, slot-later k q p hq hp e (omega (arith, rank-p))))
 
-  s-there : (q : ℕ) → q < all → (rank k q ≡ t → ⊥) → cellsOf m s′ q ≡ cellsOf m s q
+  s-there : (q : ℕ) → q < all → (rank k q ≡ t → ⊥) → pathCells m s′ q ≡ pathCells m s q
   s-there q hq n = put-others all m s p total hp (v .s-length) total-length q hq (λ e. n (ap (rank k) e ∙ rank-p))
 
-  next-kept : (q : ℕ) → q < all → rank k q < t + 1 → t + 1 ≤ rank k q + 2 * k .w → cellsOf m l′ (slotOf (k .w) q) ≡ pathAt k c q
+  next-kept : (q : ℕ) → q < all → rank k q < t + 1 → t + 1 ≤ rank k q + 2 * k .w → pathCells m l′ (slotOf (k .w) q) ≡ pathAt k c q
   next-kept q hq r near =
       ⊎-elim (λ (b : rank k q < t). l-there q hq b near ∙ v .kept q hq b (omega arith))
       (λ (b : t ≤ rank k q). rw (at-turn q hq r b) (put-cells all m l slot vec slot-here (v .l-length) vec-length ∙ vec-is))
       (lt-or-le (rank k q) t)
 
-  next-summed : (q : ℕ) → q < all → rank k q < t + 1 → cellsOf m s′ q ≡ addVec (cellsOf m s₀ q) (pathAt k c q)
+  next-summed : (q : ℕ) → q < all → rank k q < t + 1 → pathCells m s′ q ≡ addVec (pathCells m s₀ q) (pathAt k c q)
   next-summed q hq r =
       ⊎-elim (λ (b : rank k q < t). s-there q hq (λ e. omega arith) ∙ v .summed q hq b)
       (λ (b : t ≤ rank k q). rw (at-turn q hq r b)
       (put-cells all m s p total hp (v .s-length) total-length
-      ∙ ap (λ (u : List Float). addVec u vec) (v .waiting p hp (omega (arith, rank-p))) ∙ ap (addVec (cellsOf m s₀ p)) vec-is))
+      ∙ ap (λ (u : List Float). addVec u vec) (v .waiting p hp (omega (arith, rank-p))) ∙ ap (addVec (pathCells m s₀ p)) vec-is))
       (lt-or-le (rank k q) t)
 
-  pub visited-more : Visited k c s₀ (put l (slotOf (k .w) p * k .count) (slotPath k l c p)) (put s (p * k .count) (addVec (cellsOf (k .count) s p) (slotPath k l c p))) (t + 1)
+  pub visited-more : Visited k c s₀ (put l (slotOf (k .w) p * k .count) (slotPath k l c p)) (put s (p * k .count) (addVec (pathCells (k .count) s p) (slotPath k l c p))) (t + 1)
   visited-more =
       record {
         l-length = put-length all m l slot vec slot-here (v .l-length) vec-length;
@@ -259,5 +259,5 @@ module _ {k : Walk} {c s₀ l s : List Float} (hc : length c ≡ cellsIn k) (hs 
       same-cells (pixelsIn k) (k .count) s (addVec s₀ (pathVolume k c)) (v .s-length) (length-sum s₀ (pathVolume k c) ∙ hs)
       (λ p hp. let end = cells-end (pixelsIn k) (k .count) p hp in
       v .summed p hp (rank-below (isForward (k .dx) (k .dy)) (pixelsIn k) p hp)
-      ∙ ap (addVec (cellsOf (k .count) s₀ p)) (sym (volume-cells k c hc p hp))
+      ∙ ap (addVec (pathCells (k .count) s₀ p)) (sym (volume-cells k c hc p hp))
       ∙ sym (run-sum (k .count) (p * k .count) s₀ (pathVolume k c) (omega arith) (omega (arith, volume-length k c hc))))

@@ -43,11 +43,11 @@ pub record Turnable (w count : ℕ) (first : ℤ) : Type 0 where
   pub count-most : count ≤ countMost
   pub first-most : natAbs first ≤ firstMost
 
--- index k of a pixel for the other picture, where the costs of its row lie in v from cell `row` on and its column is far - 4096 + first: both columns are counted
+-- index k of a pixel for the other picture, where the costs of its row lie in v from cell `row` on and its column is far - firstMost + first: both columns are counted
 -- from so far to the left that neither is negative
 unfoldable pub turnedAt : ℕ → ℕ → ℕ → ℕ → List Float → ℕ → Float
 turnedAt w count row far v k = inRow two w (subℕ far (firstMost + k)) (λ x. getD v (row + (x * count + k)) nan)
 
--- the cells of a row for the other picture, where 4096 - first is `shift`
+-- the cells of a row for the other picture, where firstMost - first is `shift`
 unfoldable pub turnedRow : ℕ → ℕ → ℕ → ℕ → List Float → List Float
 turnedRow w count row shift v = listOf (w * count) (λ i. turnedAt w count row (i / count + shift) v (i % count))

@@ -32,13 +32,13 @@ abbrev pub bestOf : Float → Float → Float → Float → Float
 bestOf same below above jump = smallerOf (smallerOf (smallerOf same below) above) jump
 
 -- L = (c + best) - M
-abbrev pub cellOf : Float → Float → Float → Float
-cellOf c best m = sub binary32 (add binary32 c best) m
+abbrev pub pathCell : Float → Float → Float → Float
+pathCell c best m = sub binary32 (add binary32 c best) m
 
 -- L(k) at a pixel that has a previous one
 unfoldable pub stepCell : Float → Float → List Float → List Float → ℕ → Float
 stepCell p1 p2 prev cost k =
-    cellOf (getD cost k nan) (bestOf (getD prev k nan) (fromBelow p1 prev k) (fromAbove p1 prev k) (add binary32 (leastOf prev) p2)) (leastOf prev)
+    pathCell (getD cost k nan) (bestOf (getD prev k nan) (fromBelow p1 prev k) (fromAbove p1 prev k) (add binary32 (leastOf prev) p2)) (leastOf prev)
 
 -- L at a pixel that has a previous one
 unfoldable pub stepVec : Float → Float → List Float → List Float → List Float

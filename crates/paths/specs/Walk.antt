@@ -41,13 +41,13 @@ pathFrom k path cost Nowhere = cost
 pathFrom k path cost (At q) = stepVec (k .p1) (k .p2) (path q) cost
 
 -- the cells of pixel p
-abbrev pub cellsOf : ℕ → List Float → ℕ → List Float
-cellsOf count v p = run count (p * count) v
+abbrev pub pathCells : ℕ → List Float → ℕ → List Float
+pathCells count v p = run count (p * count) v
 
 -- L at pixel p, over the last n steps of its path
 unfoldable pub pathWithin : Walk → List Float → ℕ → ℕ → List Float
-pathWithin k c zero p = cellsOf (k .count) c p
-pathWithin k c (suc n) p = pathFrom k (pathWithin k c n) (cellsOf (k .count) c p) (previousOf k p)
+pathWithin k c zero p = pathCells (k .count) c p
+pathWithin k c (suc n) p = pathFrom k (pathWithin k c n) (pathCells (k .count) c p) (previousOf k p)
 
 -- the row of slots for row y: two are used by turns, since a step reads its own row or the one visited before
 abbrev pub slotRow : ℕ → ℕ
@@ -64,11 +64,11 @@ slotIn w Nowhere = Nowhere
 
 -- L at pixel p, where L at the previous pixel stands in its slot of l
 abbrev pub slotPath : Walk → List Float → List Float → ℕ → List Float
-slotPath k l c p = pathFrom k (λ q. cellsOf (k .count) l (slotOf (k .w) q)) (cellsOf (k .count) c p) (previousOf k p)
+slotPath k l c p = pathFrom k (λ q. pathCells (k .count) l (slotOf (k .w) q)) (pathCells (k .count) c p) (previousOf k p)
 
 -- what stands in the slot of the pixel before p is known to be in the range of path costs
 abbrev pub SlotReady : Walk → List Float → ℕ → Type 0
-SlotReady k l p = (q : ℕ) → previousOf k p ≡ At q → All (UpTo 1027) (cellsOf (k .count) l (slotOf (k .w) q))
+SlotReady k l p = (q : ℕ) → previousOf k p ≡ At q → All (UpTo 1027) (pathCells (k .count) l (slotOf (k .w) q))
 
 -- how many pixels there are
 abbrev pub pixelsIn : Walk → ℕ

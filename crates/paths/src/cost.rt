@@ -10,6 +10,7 @@ ghost use Rattle.options.specs.Limits.{countMost, firstMost};
 ghost use Rattle.paths.specs.Cost.{matchingCost, matchingCosts, costsFrom, Turnable, turnedAt, turnedRow, turnedCosts};
 ghost use Rattle.paths.specs.Room.{run, put, spread, Runs, Apart};
 use options::BlockMatchOptions;
+use options::FIRST_MOST;
 use options::RawCost;
 
 // The matching cost of a raw cost.
@@ -92,12 +93,12 @@ pub struct Turn {
     pub first: i32,
 }
 
-// 4096 - first, which is never negative.
+// The largest first disparity minus this one, which is never negative.
 fn shift_of(turn: Turn) -> usize
     requires { ⌜ natAbs (turn .first) ≤ firstMost ⌝ }
     ensures { λ r. ⌜ pos r ≡ pos firstMost -ℤ turn .first ⌝ }
 {
-    (4096 - turn.first) as usize
+    (FIRST_MOST - turn.first) as usize
 }
 
 // The cost with index k for the other picture, of a pixel whose row's costs lie from cell `row` on.
@@ -105,7 +106,7 @@ fn turned_cost(v: &[f32], row: usize, w: usize, count: usize, far: usize, k: usi
     requires { ⌜ (row + w * count ≤ length (now v)) × (k < count) × (count ≤ countMost) ⌝ }
     ensures { λ r. ⌜ r ≡ turnedAt w count row far (now (v .entry)) k ⌝ }
 {
-    let back = 4096 + k;
+    let back = FIRST_MOST as usize + k;
     if far < back {
         return BlockMatchOptions::WORST_COST;
     }

@@ -6,7 +6,7 @@ ghost use lib.Dec.{ltb};
 ghost use Rattle.paths.specs.Bounds.{Bounded};
 ghost use Rattle.paths.specs.Path.{addVec};
 ghost use Rattle.paths.specs.Room.{run, put, Runs, Room, SumsMade};
-ghost use Rattle.paths.specs.Walk.{stepBack, previousOf, cellsOf, slotOf, slotIn, slotPath, SlotReady, pathVolume, isForward, UnitStep, Direction, pixelsIn, cellsIn};
+ghost use Rattle.paths.specs.Walk.{stepBack, previousOf, pathCells, slotOf, slotIn, slotPath, SlotReady, pathVolume, isForward, UnitStep, Direction, pixelsIn, cellsIn};
 use crate::pixel::add_path;
 use crate::pixel::path_pixel;
 use crate::pixel::path_start;
@@ -136,7 +136,7 @@ fn path_visit(
 )
     requires { ⌜ Direction (walk .dx) (walk .dy) ⌝ }
     requires { ⌜ (0 < walk .count) × (x < walk .w) × (y < walk .h) × Room (now v) (cellsIn walk) costs paths sums × SlotReady walk (run (cellsIn walk) paths (now v)) (y * walk .w + x) ⌝ }
-    ensures { λ _. ⌜ (let p = y * walk .w + x in let l = slotPath walk (run (cellsIn walk) paths (now (v .entry))) (run (cellsIn walk) costs (now (v .entry))) p in now (v .exit) ≡ put (put (now (v .entry)) (paths + slotOf (walk .w) p * walk .count) l) (sums + p * walk .count) (addVec (cellsOf (walk .count) (run (cellsIn walk) sums (now (v .entry))) p) l)) ⌝ }
+    ensures { λ _. ⌜ (let p = y * walk .w + x in let l = slotPath walk (run (cellsIn walk) paths (now (v .entry))) (run (cellsIn walk) costs (now (v .entry))) p in now (v .exit) ≡ put (put (now (v .entry)) (paths + slotOf (walk .w) p * walk .count) l) (sums + p * walk .count) (addVec (pathCells (walk .count) (run (cellsIn walk) sums (now (v .entry))) p) l)) ⌝ }
 {
     path_at(v, costs, paths, walk, x, y);
     let count = walk.count;

@@ -7,7 +7,7 @@ ghost use lib.ListN.{length, drop};
 ghost use lib.Seq.{paste};
 ghost use lib.Ieee.{inf};
 ghost use Rattle.paths.specs.Bounds.{UpTo, All};
-ghost use Rattle.paths.specs.Path.{leastOf, bestOf, cellOf, fromBelow, fromAbove, stepCell, stepVec, addVec};
+ghost use Rattle.paths.specs.Path.{leastOf, bestOf, pathCell, fromBelow, fromAbove, stepCell, stepVec, addVec};
 ghost use Rattle.paths.specs.Room.{run, put, Runs};
 use numbers::plain::smaller;
 
@@ -40,7 +40,7 @@ fn least_of_run(v: &[f32], at: usize, count: usize) -> f32
 
 // One path cost: (cost + best) - least, where best is the least of the four ways.
 fn path_cell(cost: f32, same: f32, below: f32, above: f32, jump: f32, least: f32) -> f32
-    ensures { λ r. ⌜ r ≡ cellOf cost (bestOf same below above jump) least ⌝ }
+    ensures { λ r. ⌜ r ≡ pathCell cost (bestOf same below above jump) least ⌝ }
 {
     let best = smaller(smaller(smaller(same, below), above), jump);
     (cost + best) - least

@@ -18,14 +18,16 @@ use lib.Ieee.Order.{round-mono, le-of-values}
 use lib.Ieee.Positive.{den, den-pos}
 use Rattle.lists.specs.Rows.{levelAt}
 use Rattle.options.specs.Limits.{sideMost}
+use Rattle.options.proofs.Sides.{SideFits, side-fits}
+use Rattle.refusals.specs.Answered.{firstOf}
 use Rattle.pictures.specs.declared.Sample.the-variants as sample
-use Rattle.pictures.specs.Picture.{Bytes, shapeOf}
+use Rattle.pictures.specs.Picture.{Bytes}
 use Rattle.numbers.specs.Operators.{_⊕_, _⊖_, _⊗_, float}
-use Rattle.pictures.specs.Bilinear.{one, clamped, placeOf, blended, Readable, valueAt, valueIn, sampleOf, most, Range}
+use Rattle.pictures.specs.Bilinear.{one, clamped, placeOf, blended, Readable, valueAt, sampleOf, most, ReadingRange}
 use Rattle.pictures.specs.Bilinear as bilinear
 use Rattle.pictures.proofs.Values.{round-none, sub-at, Upto, upto-of-value}
 use Rattle.pictures.proofs.Places.{float-val, one-val, whole-is, side-upto}
-use Rattle.pictures.proofs.Shapes.{Side, side, whole, level-small}
+use Rattle.pictures.proofs.Shapes.{whole, level-small}
 use Rattle.pictures.proofs.Readings.{read-at}
 use Rattle.pictures.proofs.Bounds.{parts, upto-round, upto-mul, upto-add, grid-value}
 
@@ -228,7 +230,7 @@ upto-most (fin false m i) a c C h v =
 
 -- ---- THEOREM on the blend of four levels up to 255 with shares from 0 to 1
 module _ (p00 p10 p01 p11 : ℕ) (h00 : p00 ≤ 255) (h10 : p10 ≤ 255) (h01 : p01 ≤ 255) (h11 : p11 ≤ 255) where
-  split-range : (dx dy : Float) (e : ℕ) → 0 < e → Split dx e → Split dy e → Range (blended (float p00) (float p10) (float p01) (float p11) dx dy)
+  split-range : (dx dy : Float) (e : ℕ) → 0 < e → Split dx e → Split dy e → ReadingRange (blended (float p00) (float p10) (float p01) (float p11) dx dy)
   unfolding blended
   split-range dx dy e E s t =
       let c = parts * e in
@@ -254,27 +256,27 @@ module _ (p00 p10 p01 p11 : ℕ) (h00 : p00 ≤ 255) (h10 : p10 ≤ 255) (h01 : 
           → Upto (float p ⊗ x ⊗ y) ((255 * a + e) * b + e * (parts * e)) (parts * (e * (parts * e)))
       product p x y a b h i j v w = then-times (float p ⊗ x) y (255 * a + e) b e E (omega arith) j (level-times p x a e E h i v) w
 
-  pub blended-range : (dx dy : Float) → Upto dx 1 1 → Upto dy 1 1 → Range (blended (float p00) (float p10) (float p01) (float p11) dx dy)
+  pub blended-range : (dx dy : Float) → Upto dx 1 1 → Upto dy 1 1 → ReadingRange (blended (float p00) (float p10) (float p01) (float p11) dx dy)
   blended-range dx dy v w =
       split-range dx dy (den dx * den dy) (mul-pos (den-pos dx) (den-pos dy)) (split dx (den dy) (den-pos dy) v) (subst (Split dy) (mul-comm (den dy) (den dx)) (split dy (den dx) (den-pos dx) w))
 
-pub value-range : (pic : List ℕ) (w h : ℕ) (xf yf : Float) → Bytes pic → Readable pic w h xf yf → Range (valueAt pic w h xf yf)
+pub value-range : (pic : List ℕ) (w h : ℕ) (xf yf : Float) → Bytes pic → Readable pic w h xf yf → ReadingRange (valueAt pic w h xf yf)
 unfolding valueAt placeOf
 value-range pic w h xf yf b r =
     let g = whole (length pic) w h (r .good) in
-    blended-range _ _ _ _ (held _ _) (held _ _) (held _ _) (held _ _) _ _ (shares w xf (side w (g .wide)) (r .x-is)) (shares h yf (side h (g .high)) (r .y-is))
+    blended-range _ _ _ _ (held _ _) (held _ _) (held _ _) (held _ _) _ _ (shares w xf (side-fits w (g .wide)) (r .x-is)) (shares h yf (side-fits h (g .high)) (r .y-is))
   where
     held : (i j : ℕ) → levelAt w pic i j ≤ 255
     held i j = omega (arith, level-small pic w i j b)
 
-    shares : (n : ℕ) (t : Float) → Side n → isNan t ≡ false → Upto (clamped t bilinear.plusZero (float n ⊖ one) ⊖ float (toUnsigned 64 (clamped t bilinear.plusZero (float n ⊖ one)))) 1 1
+    shares : (n : ℕ) (t : Float) → SideFits n → isNan t ≡ false → Upto (clamped t bilinear.plusZero (float n ⊖ one) ⊖ float (toUnsigned 64 (clamped t bilinear.plusZero (float n ⊖ one)))) 1 1
     shares n t g i = share-upto (n - 1) (clamped t bilinear.plusZero (float n ⊖ one)) (omega (arith, g .most)) (side-upto n t g i)
 
 -- ---- THEOREM: the range of what `bilinear` answers
-pub in-range : (pic : List ℕ) (w h : ℕ) (xf yf v : Float) → Bytes pic → sampleOf pic w h xf yf ≡ sample.At v → Range v
-in-range pic w h xf yf v b e = let a = read-at pic w h xf yf v e in subst Range (a .value) (value-range pic w h xf yf b (a .readable))
+pub in-range : (pic : List ℕ) (w h : ℕ) (xf yf v : Float) → Bytes pic → sampleOf pic w h xf yf ≡ sample.At v → ReadingRange v
+in-range pic w h xf yf v b e = let a = read-at pic w h xf yf v e in subst ReadingRange (a .value) (value-range pic w h xf yf b (a .reads))
 
 -- ---- THEOREM: it can be above 255, here by 2 ^ -45, of four pixels of the level 255
 pub above-255 : sampleOf (255 ∷ 255 ∷ 255 ∷ 255 ∷ []) 2 2 (ieee.ofBits binary64 0x3fdf_cbbd_fd38_ac21) (ieee.ofBits binary64 0x3fdb_bc52_667e_0452) ≡ sample.At (fin false (255 * 2 ^ 45 + 1) (negsuc 44))
-unfolding sampleOf valueIn shapeOf valueAt placeOf clamped blended lt toUnsigned isNan ofInt ieee.ofBits ieee.add ieee.sub ieee.mul
+unfolding sampleOf firstOf valueAt placeOf clamped blended lt toUnsigned isNan ofInt ieee.ofBits ieee.add ieee.sub ieee.mul
 above-255 = refl

@@ -14,11 +14,12 @@ use lib.Ieee.Exact.{HasValue}
 use lib.Ieee.Fits.{down-pos}
 use lib.Ieee.Back.{round-whole}
 use Rattle.numbers.proofs.Values.{above-minus-one, below-top, cut}
+use Rattle.options.proofs.Sides.{SideFits, side-fits}
 use Rattle.pictures.specs.declared.Place.{Place}
 use Rattle.numbers.specs.Operators.{_⊖_, float}
 use Rattle.pictures.specs.Bilinear.{one, clamped, placeOf, Readable}
 use Rattle.pictures.specs.Bilinear as bilinear
-use Rattle.pictures.proofs.Shapes.{Side, side, whole, byte-in}
+use Rattle.pictures.proofs.Shapes.{whole, byte-in}
 use Rattle.pictures.proofs.Values.{sub-at, Upto, upto-of-value}
 
 -- ---- whole numbers as f64
@@ -36,7 +37,7 @@ pub one-val : HasValue one false 1 1
 one-val = (refl, refl)
 
 -- the last pixel's coordinate
-pub last-val : (n : ℕ) → Side n → HasValue (float n ⊖ one) false (n - 1) 1
+pub last-val : (n : ℕ) → SideFits n → HasValue (float n ⊖ one) false (n - 1) 1
 last-val n g =
     subst (λ (x : Float). HasValue x false (n - 1) 1)
     (sym (sub-at binary64 n 1 1 1 (zero-lt-suc 0) (zero-lt-suc 0) (float n) one (float-val n (le-trans (g .most) (lit≤ tt))) one-val (omega (arith, g .least))
@@ -126,14 +127,14 @@ whole-part k (fin false m e) h v = rw (whole-is k m e h v) (div-le-of-le-mul (do
 
 -- ---- a place on a side of n pixels
 
-pub side-upto : (n : ℕ) (t : Float) → Side n → isNan t ≡ false → Upto (clamped t bilinear.plusZero (float n ⊖ one)) (n - 1) 1
+pub side-upto : (n : ℕ) (t : Float) → SideFits n → isNan t ≡ false → Upto (clamped t bilinear.plusZero (float n ⊖ one)) (n - 1) 1
 side-upto n t g h = clamped-upto (n - 1) t (float n ⊖ one) h (last-val n g)
 
 pub record On (n : ℕ) (p : Place) : Type 0 where
   pub first-in : p .first < n
   pub next-in : p .next < n
 
-on-side : (n : ℕ) (t : Float) → Side n → isNan t ≡ false → On n (placeOf n t)
+on-side : (n : ℕ) (t : Float) → SideFits n → isNan t ≡ false → On n (placeOf n t)
 unfolding placeOf
 on-side n t s h =
     let c = clamped t bilinear.plusZero (float n ⊖ one) in
@@ -143,16 +144,16 @@ on-side n t s h =
     }
 
 -- both places of a reading, and what its pixels' bytes ask
-pub record Placed (pic : List ℕ) (w h : ℕ) (x y : Place) : Type 0 where
+pub record PlacedIn (pic : List ℕ) (w h : ℕ) (x y : Place) : Type 0 where
   pub across : On w x
   pub down-in : On h y
   pub byte : {i j : ℕ} → i < w → j < h → j * w + i < length pic
 
-pub placed : (pic : List ℕ) (w h : ℕ) (xf yf : Float) (x y : Place) → Readable pic w h xf yf → x ≡ placeOf w xf → y ≡ placeOf h yf → Placed pic w h x y
+pub placed : (pic : List ℕ) (w h : ℕ) (xf yf : Float) (x y : Place) → Readable pic w h xf yf → x ≡ placeOf w xf → y ≡ placeOf h yf → PlacedIn pic w h x y
 placed pic w h xf yf x y r p q =
     let g = whole (length pic) w h (r .good) in
     record {
-      across = rw p (on-side w xf (side w (g .wide)) (r .x-is));
-      down-in = rw q (on-side h yf (side h (g .high)) (r .y-is));
+      across = rw p (on-side w xf (side-fits w (g .wide)) (r .x-is));
+      down-in = rw q (on-side h yf (side-fits h (g .high)) (r .y-is));
       byte = λ {i} {j} a b. byte-in pic w h i j (r .good) a b;
     }

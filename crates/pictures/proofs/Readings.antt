@@ -1,17 +1,23 @@
--- The test of a NaN, and what an answer of `bilinear` with a value says. Assumes nothing.
-use mathlib.Core.Path.{_≡_, refl}
+-- The test of a NaN, and what a reading that is not refused has. Assumes nothing.
+use mathlib.Core.Path.{_≡_, refl, sym, ap, _∙_}
 use Prim.Native.Nat.{ℕ, _*_}
-use mathlib.Core.Bool.{Bool, true, false, _||_, cond}
-use mathlib.Core.List.{List}
-use native.Mathlib.Omega.{arith}
+use mathlib.Core.Bool.{true, false, _||_}
+use mathlib.Core.List.{List, [], _∷_}
 use borrow.Author.Tests.{eq-eqb}
 use lib.ListN.{length}
+use lib.Dec.{lit<}
 use lib.Ieee.{Float, nan, inf, fin, up, down, ne, isNan}
-use Rattle.pictures.specs.declared.Shape.{Shape}
-use Rattle.pictures.specs.declared.Shape.the-variants as shape
+use Rattle.lists.proofs.Tests.{or-false}
+use Rattle.refusals.specs.Answered.{row, firstOf}
+use Rattle.refusals.specs.Given.{numberBack}
+use Rattle.refusals.proofs.Answering.{none-of}
+use Rattle.refusals.proofs.Groups.{by-rest, none-of-both}
+use Rattle.refusals.proofs.Outcomes.{number-back}
 use Rattle.pictures.specs.declared.Sample.the-variants as sample
-use Rattle.pictures.specs.Picture.{shapeOf}
-use Rattle.pictures.specs.Bilinear.{Readable, valueAt, valueIn, sampleOf}
+use Rattle.pictures.specs.Picture.{shapeRows}
+use Rattle.pictures.specs.Bilinear.{Readable, valueAt, readingRows, sampleOf}
+use Rattle.pictures.specs.Given.{sampleGiven}
+use Rattle.pictures.proofs.Shapes.{shape-numbered}
 
 -- a NaN is what differs from itself
 pub nan-test : (x : Float) → ne x x ≡ isNan x
@@ -22,21 +28,26 @@ nan-test (inf false) = refl
 nan-test (fin true m e) = rw (eq-eqb (m * up e * down e) (m * up e * down e) refl)
 nan-test (fin false m e) = rw (eq-eqb (m * up e * down e) (m * up e * down e) refl)
 
--- what an answer with a value says
-pub record ReadAt (pic : List ℕ) (w h : ℕ) (xf yf v : Float) : Type 0 where
-  pub readable : Readable pic w h xf yf
-  pub value : valueAt pic w h xf yf ≡ v
+module _ (pic : List ℕ) (w h : ℕ) (xf yf : Float) where
+  -- a reading is not refused exactly where the picture is not, and neither coordinate is a NaN
+  pub readable : firstOf (readingRows (length pic) w h xf yf) ≡ 0 → Readable pic w h xf yf
+  readable none =
+      let groups = none-of-both (shapeRows (length pic) w h) (row 25 (isNan xf || isNan yf) ∷ []) (shape-numbered (length pic) w h) none in
+      let numbers = or-false (isNan xf) (isNan yf) (none-of (row 25 (isNan xf || isNan yf) ∷ []) (lit< tt, tt) (groups .1) .0) in
+      record { good = groups .0; x-is = numbers .0; y-is = numbers .1 }
 
-pub read-at : (pic : List ℕ) (w h : ℕ) (xf yf v : Float) → sampleOf pic w h xf yf ≡ sample.At v → ReadAt pic w h xf yf v
-unfolding sampleOf valueIn
-read-at pic w h xf yf v e = by (shapeOf (length pic) w h) refl e
-  where
-    tests : (a b : Bool) → shapeOf (length pic) w h ≡ shape.Good → isNan xf ≡ a → isNan yf ≡ b → cond (a || b) (sample.Refused 25) (sample.At (valueAt pic w h xf yf)) ≡ sample.At v
-        → ReadAt pic w h xf yf v
-    tests false false p q r e = record { readable = record { good = p; x-is = q; y-is = r }; value = cc }
-    tests false true p q r e = absurd (let z : _≡_ {A = ℕ} 0 1 = cc in omega arith)
-    tests true b p q r e = absurd (let z : _≡_ {A = ℕ} 0 1 = cc in omega arith)
+  pub reading-none : Readable pic w h xf yf → firstOf (readingRows (length pic) w h xf yf) ≡ 0
+  unfolding firstOf
+  reading-none r = by-rest (shapeRows (length pic) w h) (row 25 (isNan xf || isNan yf) ∷ []) (shape-numbered (length pic) w h) (r .good) ∙ rw (r .x-is, r .y-is)
 
-    by : (s : Shape) → shapeOf (length pic) w h ≡ s → valueIn s pic w h xf yf ≡ sample.At v → ReadAt pic w h xf yf v
-    by (shape.Refused n) p e = absurd (let z : _≡_ {A = ℕ} 0 1 = cc in omega arith)
-    by shape.Good p e = tests (isNan xf) (isNan yf) p refl refl e
+  -- what an answer with a value says
+  pub record ReadAt (v : Float) : Type 0 where
+    pub reads : Readable pic w h xf yf
+    pub value : valueAt pic w h xf yf ≡ v
+
+  pub read-at : (v : Float) → sampleOf pic w h xf yf ≡ sample.At v → ReadAt v
+  unfolding sampleOf
+  read-at v e =
+      let none = sym (number-back sampleGiven sample.Refused (sample.At (valueAt pic w h xf yf)) (λ k. refl) refl (firstOf (readingRows (length pic) w h xf yf))) ∙ ap (λ r. numberBack (sampleGiven r)) e in
+      let same : sample.At (valueAt pic w h xf yf) ≡ sample.At v = rw none at e in
+      record { reads = readable none; value = cc }

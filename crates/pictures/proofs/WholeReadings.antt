@@ -3,11 +3,10 @@ use mathlib.Core.Path.{_≡_, refl, sym, ap, _∙_}
 use Prim.Native.Nat.{ℕ, _+_, _-_, _*_, _^_, _≤_, _<_, min}
 use native.Mathlib.Nat.{le-trans, le-refl, le-of-lt, sub-self, mul-one, mul-zero, mul-pos, zero-lt-suc}
 use native.Mathlib.Omega.{arith}
-use mathlib.Core.Bool.{Bool, true, false, _&&_, cond, true≢false}
+use mathlib.Core.Bool.{Bool, true, false, true≢false}
 use mathlib.Core.List.{List}
-use borrow.Author.Tests.{ltb-true}
 use lib.IntN.{pos}
-use lib.Dec.{ltb, lit≤}
+use lib.Dec.{lit≤}
 use lib.ListN.{length}
 use lib.Ieee.{Float, nan, inf, fin, binary64, up, down, unlike, round, lt, ofInt, toUnsigned, isNan}
 use lib.Ieee as ieee
@@ -15,14 +14,18 @@ use lib.Ieee.Exact.{HasValue}
 use lib.Ieee.Fits.{down-pos}
 use lib.Ieee.Back.{unsigned-back}
 use Rattle.lists.specs.Rows.{levelAt}
-use Rattle.pictures.specs.declared.Shape.{Shape}
-use Rattle.pictures.specs.declared.Shape.the-variants as shape
+use Rattle.options.proofs.Sides.{SideFits, side-fits}
+use Rattle.refusals.specs.Answered.{firstOf}
+use Rattle.refusals.specs.Given.{numberBack}
+use Rattle.refusals.proofs.Outcomes.{number-back}
 use Rattle.pictures.specs.declared.Level.the-variants as level
 use Rattle.pictures.specs.declared.Sample.the-variants as sample
-use Rattle.pictures.specs.Picture.{Bytes, shapeOf, levelIn, pixelOf}
+use Rattle.pictures.specs.Picture.{Bytes, levelRows, pixelOf}
 use Rattle.numbers.specs.Operators.{_⊕_, _⊖_, _⊗_, float}
-use Rattle.pictures.specs.Bilinear.{one, plusZero, clamped, placeOf, blended, valueAt, valueIn, sampleOf, WholeAt, plain, minus-zero}
-use Rattle.pictures.proofs.Shapes.{Side, side, whole, level-small}
+use Rattle.pictures.specs.Bilinear.{one, plusZero, clamped, placeOf, blended, valueAt, sampleOf, WholeAt, plain, minus-zero}
+use Rattle.pictures.specs.Given.{levelGiven}
+use Rattle.pictures.proofs.Shapes.{whole, Inside, inside, level-small}
+use Rattle.pictures.proofs.Readings.{reading-none}
 use Rattle.pictures.proofs.Values.{round-none, mul-at, add-at, sub-at, lt-at}
 use Rattle.pictures.proofs.Places.{counted, float-val, one-val, last-val}
 
@@ -107,7 +110,7 @@ pub record OnPixel (n x : ℕ) (t : Float) : Type 0 where
   pub sign : Bool
   pub place : placeOf n t ≡ record { first = x; next = min (x + 1) (n - 1); share = zeroed sign }
 
-module _ (n x : ℕ) (g : Side n) (i : x < n) where
+module _ (n x : ℕ) (g : SideFits n) (i : x < n) where
   small : x ≤ 2 ^ 53
   small = omega (arith, g .most)
 
@@ -130,15 +133,15 @@ minus-clamped (inf s) k v = absurd v
 minus-clamped (fin true m e) k v = absurd (true≢false (v .0))
 minus-clamped (fin false m e) k v = refl
 
-minus-place : (n : ℕ) → Side n → placeOf n (zeroed true) ≡ record { first = 0; next = min (0 + 1) (n - 1); share = zeroed true }
+minus-place : (n : ℕ) → SideFits n → placeOf n (zeroed true) ≡ record { first = 0; next = min (0 + 1) (n - 1); share = zeroed true }
 unfolding placeOf toUnsigned ieee.sub ofInt
 minus-place n g = rw (minus-clamped (float n ⊖ one) (n - 1) (last-val n g))
 
-on-pixel : {n x : ℕ} {t : Float} → Side n → x < n → WholeAt t x → OnPixel n x t
+on-pixel : {n x : ℕ} {t : Float} → SideFits n → x < n → WholeAt t x → OnPixel n x t
 on-pixel {n} g i (plain x) = record { sign = false; place = plain-place n x g i }
 on-pixel {n} g i minus-zero = record { sign = true; place = minus-place n g }
 
-whole-no-nan : {n x : ℕ} {t : Float} → Side n → x < n → WholeAt t x → isNan t ≡ false
+whole-no-nan : {n x : ℕ} {t : Float} → SideFits n → x < n → WholeAt t x → isNan t ≡ false
 unfolding isNan
 whole-no-nan {n} g i (plain x) = no-nan (float x) x (float-val x (small n x g i))
   where
@@ -148,7 +151,7 @@ whole-no-nan {n} g i (plain x) = no-nan (float x) x (float-val x (small n x g i)
     no-nan (fin s m e) a v = refl
 whole-no-nan g i minus-zero = refl
 
-whole-value : (pic : List ℕ) (w h x y : ℕ) (xf yf : Float) → Bytes pic → Side w → Side h → x < w → y < h → WholeAt xf x → WholeAt yf y → valueAt pic w h xf yf ≡ float (levelAt w pic x y)
+whole-value : (pic : List ℕ) (w h x y : ℕ) (xf yf : Float) → Bytes pic → SideFits w → SideFits h → x < w → y < h → WholeAt xf x → WholeAt yf y → valueAt pic w h xf yf ≡ float (levelAt w pic x y)
 unfolding valueAt
 whole-value pic w h x y xf yf b g k i j u v =
     let p = on-pixel g i u in
@@ -162,32 +165,21 @@ whole-value pic w h x y xf yf b g k i j u v =
     held i j = le-trans (le-of-lt (level-small pic w i j b)) (lit≤ tt)
 
 -- what a level that `pixel` gives says of the shape and the pixel
-pub record Inside (pic : List ℕ) (w h x y l : ℕ) : Type 0 where
-  pub good : shapeOf (length pic) w h ≡ shape.Good
-  pub x-in : x < w
-  pub y-in : y < h
-  pub level-is : levelAt w pic x y ≡ l
-
-pub pixel-inside-is : (pic : List ℕ) (w h x y l : ℕ) → pixelOf pic w h x y ≡ level.At l → Inside pic w h x y l
-unfolding pixelOf levelIn
-pixel-inside-is pic w h x y l e = by (shapeOf (length pic) w h) refl e
-  where
-    tests : (a b : Bool) → shapeOf (length pic) w h ≡ shape.Good → ltb x w ≡ a → ltb y h ≡ b → cond (a && b) (level.At (levelAt w pic x y)) (level.Refused 26) ≡ level.At l
-        → Inside pic w h x y l
-    tests true true p q r e = record { good = p; x-in = ltb-true x w q; y-in = ltb-true y h r; level-is = cc }
-    tests true false p q r e = absurd (let z : _≡_ {A = ℕ} 0 1 = cc in omega arith)
-    tests false b p q r e = absurd (let z : _≡_ {A = ℕ} 0 1 = cc in omega arith)
-
-    by : (s : Shape) → shapeOf (length pic) w h ≡ s → levelIn s pic w h x y ≡ level.At l → Inside pic w h x y l
-    by (shape.Refused n) p e = absurd (let z : _≡_ {A = ℕ} 0 1 = cc in omega arith)
-    by shape.Good p e = tests (ltb x w) (ltb y h) p refl refl e
+pub pixel-inside-is : (pic : List ℕ) (w h x y l : ℕ) → pixelOf pic w h x y ≡ level.At l → Inside (length pic) w h x y × (levelAt w pic x y ≡ l)
+unfolding pixelOf
+pixel-inside-is pic w h x y l e =
+    let none = sym (number-back levelGiven level.Refused (level.At (levelAt w pic x y)) (λ k. refl) refl (firstOf (levelRows (length pic) w h x y))) ∙ ap (λ r. numberBack (levelGiven r)) e in
+    let same : level.At (levelAt w pic x y) ≡ level.At l = rw none at e in
+    (inside (length pic) w h x y none, cc)
 
 -- ---- THEOREM
 pub whole-reading : (pic : List ℕ) (w h x y l : ℕ) (xf yf : Float) → Bytes pic → WholeAt xf x → WholeAt yf y → pixelOf pic w h x y ≡ level.At l → sampleOf pic w h xf yf ≡ sample.At (float l)
-unfolding sampleOf valueIn
+unfolding sampleOf
 whole-reading pic w h x y l xf yf b u v e =
-    let i = pixel-inside-is pic w h x y l e in
+    let p = pixel-inside-is pic w h x y l e in
+    let i = p .0 in
     let s = whole (length pic) w h (i .good) in
-    let g = side w (s .wide) in
-    let k = side h (s .high) in
-    rw (i .good, whole-no-nan g (i .x-in) u, whole-no-nan k (i .y-in) v, whole-value pic w h x y xf yf b g k (i .x-in) (i .y-in) u v, i .level-is)
+    let g = side-fits w (s .wide) in
+    let k = side-fits h (s .high) in
+    let none = reading-none pic w h xf yf (record { good = i .good; x-is = whole-no-nan g (i .x-in) u; y-is = whole-no-nan k (i .y-in) v }) in
+    rw (none, whole-value pic w h x y xf yf b g k (i .x-in) (i .y-in) u v, p .1)

@@ -1,7 +1,7 @@
 -- A grey picture read between its pixels, step by step as the Rust has it, each operation in binary64. Definitions only.
 use Prim.Native.Nat.{ℕ, _+_, _-_, _*_, _^_, min}
 use mathlib.Core.Bool.{true, false, _||_, cond}
-use mathlib.Core.List.{List}
+use mathlib.Core.List.{List, [], _∷_, _++_}
 use mathlib.Core.Path.{_≡_}
 use lib.Dec.{T}
 use lib.IntN.{pos, negsuc}
@@ -9,12 +9,12 @@ use lib.ListN.{length}
 use lib.Ieee.{Float, fin, lt, le, toUnsigned, isNan}
 use Rattle.lists.specs.Rows.{levelAt}
 use Rattle.numbers.specs.Operators.{_⊕_, _⊖_, _⊗_, float}
-use Rattle.pictures.specs.declared.Shape.{Shape}
-use Rattle.pictures.specs.declared.Shape.the-variants as shape
+use Rattle.refusals.specs.Answered.{Row, row, firstOf}
+use Rattle.refusals.specs.Outcome.{answerFor}
 use Rattle.pictures.specs.declared.Sample.{Sample}
 use Rattle.pictures.specs.declared.Sample.the-variants as sample
 use Rattle.pictures.specs.declared.Place.{Place}
-use Rattle.pictures.specs.Picture.{shapeOf}
+use Rattle.pictures.specs.Picture.{shapeRows}
 
 -- 0.0 and 1.0
 abbrev pub plusZero : Float
@@ -42,7 +42,7 @@ blended p00 p10 p01 p11 dx dy =
     ⊕ p01 ⊗ (one ⊖ dx) ⊗ dy
     ⊕ p11 ⊗ dx ⊗ dy
 
--- the value at (xf, yf) of a picture of a good shape
+-- the value at (xf, yf) of a picture that is not refused
 unfoldable pub valueAt : List ℕ → ℕ → ℕ → Float → Float → Float
 valueAt pic w h xf yf =
     let x = placeOf w xf in
@@ -52,18 +52,17 @@ valueAt pic w h xf yf =
 
 -- what such a reading asks
 pub record Readable (pic : List ℕ) (w h : ℕ) (xf yf : Float) : Type 0 where
-  pub good : shapeOf (length pic) w h ≡ shape.Good
+  pub good : firstOf (shapeRows (length pic) w h) ≡ 0
   pub x-is : isNan xf ≡ false
   pub y-is : isNan yf ≡ false
 
--- of a picture with that shape, the value, and 25 for a coordinate that is a NaN
-unfoldable pub valueIn : Shape → List ℕ → ℕ → ℕ → Float → Float → Sample
-valueIn (shape.Refused n) pic w h xf yf = sample.Refused n
-valueIn shape.Good pic w h xf yf = cond (isNan xf || isNan yf) (sample.Refused 25) (sample.At (valueAt pic w h xf yf))
+-- of a reading: after the picture's rows 25 a coordinate is a NaN
+abbrev pub readingRows : ℕ → ℕ → ℕ → Float → Float → List Row
+readingRows bytes w h xf yf = shapeRows bytes w h ++ (row 25 (isNan xf || isNan yf) ∷ [])
 
 -- what `bilinear` answers
 unfoldable pub sampleOf : List ℕ → ℕ → ℕ → Float → Float → Sample
-sampleOf pic w h xf yf = valueIn (shapeOf (length pic) w h) pic w h xf yf
+sampleOf pic w h xf yf = answerFor (firstOf (readingRows (length pic) w h xf yf)) sample.Refused (sample.At (valueAt pic w h xf yf))
 
 -- a coordinate that is the whole number x; minus zero is zero
 pub data WholeAt : Float → ℕ → Type 0 where
@@ -75,6 +74,6 @@ abbrev pub most : Float
 most = fin false (255 * 2 ^ 31 + 1) (negsuc 30)
 
 -- the range of a reading: rounding can carry it a little above 255
-pub record Range (v : Float) : Type 0 where
+pub record ReadingRange (v : Float) : Type 0 where
   pub low : T (le plusZero v)
   pub high : T (le v most)

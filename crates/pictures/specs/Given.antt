@@ -1,7 +1,7 @@
 -- What the grey picture's answers give back: a value, or the number of the refusal. Definitions only.
 use Prim.Native.Nat.{ℕ}
 use lib.Ieee.{Float}
-use Rattle.lists.specs.Steps.{Or, is, refused}
+use Rattle.refusals.specs.Steps.{Or, is, refused}
 use Rattle.pictures.specs.declared.Level.{Level}
 use Rattle.pictures.specs.declared.Level.the-variants as level
 use Rattle.pictures.specs.declared.Sample.{Sample}

@@ -1,13 +1,13 @@
--- A grey picture is a list of bytes, row by row: its shape, and the level of one pixel. Definitions only.
+-- A grey picture is a list of bytes, row by row: what refuses it, and the level of one pixel. Definitions only.
 use Prim.Native.Nat.{ℕ, _*_, _<_}
-use mathlib.Core.Bool.{_&&_, cond}
-use mathlib.Core.List.{List}
+use mathlib.Core.Bool.{not, _&&_}
+use mathlib.Core.List.{List, [], _∷_, _++_}
 use lib.ListN.{length, getD}
 use lib.Dec.{ltb, eqb}
 use Rattle.lists.specs.Rows.{levelAt}
 use Rattle.options.specs.Limits.{isSide}
-use Rattle.pictures.specs.declared.Shape.{Shape}
-use Rattle.pictures.specs.declared.Shape.the-variants as shape
+use Rattle.refusals.specs.Answered.{Row, row, firstOf}
+use Rattle.refusals.specs.Outcome.{answerFor}
 use Rattle.pictures.specs.declared.Level.{Level}
 use Rattle.pictures.specs.declared.Level.the-variants as level
 
@@ -15,16 +15,14 @@ use Rattle.pictures.specs.declared.Level.the-variants as level
 abbrev pub Bytes : List ℕ → Type 0
 Bytes pic = (i : ℕ) → getD pic i 0 < 256
 
--- 1 for a width or height outside its range, then 2 for a byte count that is not w · h
-unfoldable pub shapeOf : ℕ → ℕ → ℕ → Shape
-shapeOf bytes w h = cond (isSide w && isSide h) (cond (eqb bytes (w * h)) shape.Good (shape.Refused 2)) (shape.Refused 1)
+-- of a picture: 1 a width or height outside its range, then 2 a byte count that is not w · h
+abbrev pub shapeRows : ℕ → ℕ → ℕ → List Row
+shapeRows bytes w h = row 1 (not (isSide w && isSide h)) ∷ row 2 (not (eqb bytes (w * h))) ∷ []
 
--- of a picture with that shape, the level of the pixel (x, y), and 26 for a pixel outside
-unfoldable pub levelIn : Shape → List ℕ → ℕ → ℕ → ℕ → ℕ → Level
-levelIn (shape.Refused n) pic w h x y = level.Refused n
-levelIn shape.Good pic w h x y = cond (ltb x w && ltb y h) (level.At (levelAt w pic x y)) (level.Refused 26)
+-- of one pixel of it: after those 26 the pixel lies outside
+abbrev pub levelRows : ℕ → ℕ → ℕ → ℕ → ℕ → List Row
+levelRows bytes w h x y = shapeRows bytes w h ++ (row 26 (not (ltb x w && ltb y h)) ∷ [])
 
 -- what `pixel` answers
 unfoldable pub pixelOf : List ℕ → ℕ → ℕ → ℕ → ℕ → Level
-unfolding shapeOf levelIn
-pixelOf pic w h x y = levelIn (shapeOf (length pic) w h) pic w h x y
+pixelOf pic w h x y = answerFor (firstOf (levelRows (length pic) w h x y)) level.Refused (level.At (levelAt w pic x y))

@@ -7,8 +7,9 @@ ghost use lib.ListN.{length};
 ghost use lib.Ieee.{isNan};
 ghost use Rattle.lists.specs.Rows.{levelAt};
 ghost use Rattle.options.specs.Limits.{isSide};
-ghost use Rattle.pictures.specs.Picture.{shapeOf, pixelOf};
-ghost use Rattle.pictures.specs.Bilinear.{clamped, Readable, placeOf, blended, valueAt, sampleOf};
+ghost use Rattle.refusals.specs.Answered.{firstOf};
+ghost use Rattle.pictures.specs.Picture.{shapeRows, levelRows, pixelOf};
+ghost use Rattle.pictures.specs.Bilinear.{clamped, Readable, placeOf, blended, valueAt, readingRows, sampleOf};
 
 // The level of a pixel.
 pub enum Level {
@@ -22,12 +23,6 @@ pub enum Sample {
     Refused(u8),
 }
 
-// Whether a picture has sides in range and as many bytes as pixels, or else the number that refuses it.
-enum Shape {
-    Good,
-    Refused(u8),
-}
-
 // Where a coordinate lies along one side: the pixel at or before it, the next one, and the next one's share.
 struct Place {
     first: usize,
@@ -35,21 +30,51 @@ struct Place {
     share: f64,
 }
 
-// The shape: 1 for a side out of range, 2 for a wrong number of bytes.
-fn check_shape(bytes: usize, width: usize, height: usize) -> Shape
-    ensures { λ r. ⌜ r ≡ shapeOf bytes width height ⌝ }
+// What a picture is refused with, 0 for none: 1 for a side out of range, 2 for a wrong number of bytes.
+fn shape_refusal(bytes: usize, width: usize, height: usize) -> u8
+    ensures { λ n. ⌜ n ≡ firstOf (shapeRows bytes width height) ⌝ }
 {
     if !is_side(width) {
-        return Shape::Refused(1);
+        return 1;
     }
     if !is_side(height) {
-        return Shape::Refused(1);
+        return 1;
     }
-    if bytes == width * height {
-        Shape::Good
-    } else {
-        Shape::Refused(2)
+    if bytes == width * height { 0 } else { 2 }
+}
+
+// What a pixel is refused with: 1 and 2 as for the picture, then 26 for a pixel outside.
+fn level_refusal(bytes: usize, width: usize, height: usize, x: usize, y: usize) -> u8
+    ensures { λ n. ⌜ n ≡ firstOf (levelRows bytes width height x y) ⌝ }
+{
+    let refused = shape_refusal(bytes, width, height);
+    if refused != 0 {
+        return refused;
     }
+    if width <= x {
+        return 26;
+    }
+    if height <= y {
+        return 26;
+    }
+    0
+}
+
+// What a reading is refused with: 1 and 2 as for the picture, then 25 for a coordinate that is a NaN.
+fn reading_refusal(bytes: usize, width: usize, height: usize, xf: f64, yf: f64) -> u8
+    ensures { λ n. ⌜ n ≡ firstOf (readingRows bytes width height xf yf) ⌝ }
+{
+    let refused = shape_refusal(bytes, width, height);
+    if refused != 0 {
+        return refused;
+    }
+    if xf != xf {
+        return 25;
+    }
+    if yf != yf {
+        return 25;
+    }
+    0
 }
 
 // The byte of a pixel inside.
@@ -61,22 +86,15 @@ fn byte_inside(pic: &[u8], width: usize, x: usize, y: usize) -> u8
     pic[at]
 }
 
-// The level of the pixel (x, y): 1 and 2 as for the shape, then 26 for a pixel outside.
+// The level of the pixel (x, y).
 pub fn pixel(pic: &[u8], width: usize, height: usize, x: usize, y: usize) -> Level
     ensures { λ r. ⌜ r ≡ pixelOf (now (pic .entry)) width height x y ⌝ }
 {
-    match check_shape(pic.len(), width, height) {
-        Shape::Refused(n) => Level::Refused(n),
-        Shape::Good => {
-            if width <= x {
-                return Level::Refused(26);
-            }
-            if height <= y {
-                return Level::Refused(26);
-            }
-            Level::At(byte_inside(pic, width, x, y))
-        }
+    let refused = level_refusal(pic.len(), width, height, x, y);
+    if refused != 0 {
+        return Level::Refused(refused);
     }
+    Level::At(byte_inside(pic, width, x, y))
 }
 
 // Rust's `clamp`: minus zero stays minus zero.
@@ -106,7 +124,7 @@ fn blend(p00: f64, p10: f64, p01: f64, p11: f64, dx: f64, dy: f64) -> f64
     p00 * (1.0 - dx) * (1.0 - dy) + p10 * dx * (1.0 - dy) + p01 * (1.0 - dx) * dy + p11 * dx * dy
 }
 
-// The value at (xf, yf) of a picture of a good shape.
+// The value at (xf, yf) of a picture that is not refused.
 fn value(pic: &[u8], width: usize, height: usize, xf: f64, yf: f64) -> f64
     requires { ⌜ Readable (now pic) width height xf yf ⌝ }
     ensures { λ r. ⌜ r ≡ valueAt (now (pic .entry)) width height xf yf ⌝ }
@@ -124,20 +142,13 @@ fn value(pic: &[u8], width: usize, height: usize, xf: f64, yf: f64) -> f64
     blend(p00, p10, p01, p11, x.share, y.share)
 }
 
-// The picture read at (xf, yf), clamped to its border: 1 and 2 as for the shape, then 25 for a coordinate that is a NaN.
+// The picture read at (xf, yf), clamped to its border.
 pub fn bilinear(pic: &[u8], width: usize, height: usize, xf: f64, yf: f64) -> Sample
     ensures { λ r. ⌜ r ≡ sampleOf (now (pic .entry)) width height xf yf ⌝ }
 {
-    match check_shape(pic.len(), width, height) {
-        Shape::Refused(n) => Sample::Refused(n),
-        Shape::Good => {
-            if xf != xf {
-                return Sample::Refused(25);
-            }
-            if yf != yf {
-                return Sample::Refused(25);
-            }
-            Sample::At(value(pic, width, height, xf, yf))
-        }
+    let refused = reading_refusal(pic.len(), width, height, xf, yf);
+    if refused != 0 {
+        return Sample::Refused(refused);
     }
+    Sample::At(value(pic, width, height, xf, yf))
 }

@@ -1,3 +1,3 @@
 -- The definitions that the contracts of `plombrisa` cite.
 pub mod Options
-pub mod Answers
+pub mod Host

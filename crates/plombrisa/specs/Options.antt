@@ -6,7 +6,7 @@ use lib.Ieee.{Float}
 use Rattle.options.specs.declared.BlockMatchOptions.{BlockMatchOptions}
 use Rattle.options.specs.declared.Side.{Side}
 use Rattle.options.specs.declared.Side.the-variants.{Left, Right}
-use Rattle.options.specs.Options.{defaultOptions}
+use Rattle.options.specs.Options.{modeOf, defaultOptions}
 use Rattle.maps.specs.Cells.{cellOf}
 use Rattle.points.specs.declared.Intrinsics.{Intrinsics}
 use Rattle.rows.specs.declared.Edit.{Edit}
@@ -28,7 +28,7 @@ matchOptions first count block least margin leftRight apart subpixel semiGlobal 
   «lr_consistency» = leftRight;
   «lr_max_diff» = apart;
   subpixel = subpixel;
-  «semi_global» = semiGlobal;
+  mode = modeOf semiGlobal;
   «sgm_p1» = p1;
   «sgm_p2» = p2;
 }
@@ -44,7 +44,7 @@ rawOptions first count block = record {
   «lr_consistency» = defaultOptions .«lr_consistency»;
   «lr_max_diff» = defaultOptions .«lr_max_diff»;
   subpixel = defaultOptions .subpixel;
-  «semi_global» = defaultOptions .«semi_global»;
+  mode = defaultOptions .mode;
   «sgm_p1» = defaultOptions .«sgm_p1»;
   «sgm_p2» = defaultOptions .«sgm_p2»;
 }
@@ -60,7 +60,7 @@ checkOptions first count block least = record {
   «lr_consistency» = defaultOptions .«lr_consistency»;
   «lr_max_diff» = defaultOptions .«lr_max_diff»;
   subpixel = defaultOptions .subpixel;
-  «semi_global» = defaultOptions .«semi_global»;
+  mode = defaultOptions .mode;
   «sgm_p1» = defaultOptions .«sgm_p1»;
   «sgm_p2» = defaultOptions .«sgm_p2»;
 }

@@ -4,7 +4,7 @@ use options::BlockMatchOptions;
 use vendor::check_vendor;
 ghost use lib.ListN.{length};
 ghost use Rattle.vendor.specs.Outcome.{vendorCall};
-ghost use Rattle.plombrisa.specs.Answers.{verdictIn, CheckTold};
+ghost use Rattle.plombrisa.specs.Host.{verdictIn, HostCheck};
 ghost use Rattle.plombrisa.specs.Options.{checkOptions};
 
 // Whether every valid cell of a vendor's map is what the raw costs of its pair say. `passed` is 1, or 0 with column and row of the
@@ -29,7 +29,7 @@ pub extern "C" fn plombrisa_check_vendor(
     x: &mut u64,
     y: &mut u64,
 ) -> u32
-    ensures { λ n. ⌜ CheckTold n (vendorCall (now (left .entry)) «left_width» «left_height» (now (right .entry)) «right_width» «right_height» (checkOptions «min_disparity» «num_disparities» «block_size» «min_correlation») (length (now («whole_room» .entry)))) (checkOptions «min_disparity» «num_disparities» «block_size» «min_correlation») (now (left .entry)) (now (right .entry)) «map_width» «map_height» (now (map .entry)) (now («whole_room» .entry)) (now («whole_room» .exit)) (verdictIn (now (passed .entry)) (now (x .entry)) (now (y .entry))) (verdictIn (now (passed .exit)) (now (x .exit)) (now (y .exit))) ⌝ }
+    ensures { λ n. ⌜ HostCheck n (vendorCall (now (left .entry)) «left_width» «left_height» (now (right .entry)) «right_width» «right_height» (checkOptions «min_disparity» «num_disparities» «block_size» «min_correlation») (length (now («whole_room» .entry)))) (checkOptions «min_disparity» «num_disparities» «block_size» «min_correlation») (now (left .entry)) (now (right .entry)) «map_width» «map_height» (now (map .entry)) (now («whole_room» .entry)) (now («whole_room» .exit)) (verdictIn (now (passed .entry)) (now (x .entry)) (now (y .entry))) (verdictIn (now (passed .exit)) (now (x .exit)) (now (y .exit))) ⌝ }
 {
     let mut opts = BlockMatchOptions::defaults();
     opts.min_disparity = min_disparity;

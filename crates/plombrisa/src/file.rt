@@ -7,18 +7,18 @@ use netpbm::pgm::pgm_size;
 use netpbm::pgm::read_pgm;
 use netpbm::writing::pfm_length;
 use netpbm::writing::write_pfm;
-ghost use Rattle.lists.specs.Writes.{byteCount};
-ghost use Rattle.lists.specs.Given.{writtenGiven};
+ghost use Rattle.refusals.specs.Writes.{byteCount};
+ghost use Rattle.refusals.specs.Given.{writtenGiven};
 ghost use Rattle.netpbm.specs.Pgm.{readPgm};
 ghost use Rattle.netpbm.specs.Pfm.{pfmOf, readPfm};
 ghost use Rattle.netpbm.specs.Outcome.{sizeOf};
 ghost use Rattle.netpbm.specs.Given.{sizeGiven};
-ghost use Rattle.plombrisa.specs.Answers.{Told, sidesIn, WriteTold, RasterTold};
+ghost use Rattle.plombrisa.specs.Host.{HostTold, sidesIn, HostWritten, HostRaster};
 
 // The size of a PGM picture, without its levels.
 #[no_mangle]
 pub extern "C" fn plombrisa_pgm_size(file: &[u8], width: &mut u64, height: &mut u64) -> u32
-    ensures { λ n. ⌜ Told n (sizeGiven (sizeOf (readPgm (now (file .entry))))) (sidesIn (now (width .entry)) (now (height .entry))) (sidesIn (now (width .exit)) (now (height .exit))) ⌝ }
+    ensures { λ n. ⌜ HostTold n (sizeGiven (sizeOf (readPgm (now (file .entry))))) (sidesIn (now (width .entry)) (now (height .entry))) (sidesIn (now (width .exit)) (now (height .exit))) ⌝ }
 {
     tell_size(pgm_size(file), width, height)
 }
@@ -31,7 +31,7 @@ pub extern "C" fn plombrisa_read_pgm(
     width: &mut u64,
     height: &mut u64,
 ) -> u32
-    ensures { λ n. ⌜ RasterTold n (readPgm (now (file .entry))) (now (out .entry)) (now (out .exit)) (sidesIn (now (width .entry)) (now (height .entry))) (sidesIn (now (width .exit)) (now (height .exit))) ⌝ }
+    ensures { λ n. ⌜ HostRaster n (readPgm (now (file .entry))) (now (out .entry)) (now (out .exit)) (sidesIn (now (width .entry)) (now (height .entry))) (sidesIn (now (width .exit)) (now (height .exit))) ⌝ }
 {
     tell_size(read_pgm(file, out), width, height)
 }
@@ -44,7 +44,7 @@ pub extern "C" fn plombrisa_pfm_length(
     height: usize,
     count: &mut u64,
 ) -> u32
-    ensures { λ n. ⌜ Told n (writtenGiven (byteCount (pfmOf width height (now (cells .entry))))) (now (count .entry)) (now (count .exit)) ⌝ }
+    ensures { λ n. ⌜ HostTold n (writtenGiven (byteCount (pfmOf width height (now (cells .entry))))) (now (count .entry)) (now (count .exit)) ⌝ }
 {
     tell_bytes(pfm_length(cells, width, height), count)
 }
@@ -58,7 +58,7 @@ pub extern "C" fn plombrisa_write_pfm(
     out: &mut [u8],
     count: &mut u64,
 ) -> u32
-    ensures { λ n. ⌜ WriteTold 45 n (pfmOf width height (now (cells .entry))) (now (out .entry)) (now (out .exit)) (now (count .entry)) (now (count .exit)) ⌝ }
+    ensures { λ n. ⌜ HostWritten 45 n (pfmOf width height (now (cells .entry))) (now (out .entry)) (now (out .exit)) (now (count .entry)) (now (count .exit)) ⌝ }
 {
     tell_bytes(write_pfm(cells, width, height, out), count)
 }
@@ -66,7 +66,7 @@ pub extern "C" fn plombrisa_write_pfm(
 // The size of a PFM map, without its cells.
 #[no_mangle]
 pub extern "C" fn plombrisa_pfm_size(file: &[u8], width: &mut u64, height: &mut u64) -> u32
-    ensures { λ n. ⌜ Told n (sizeGiven (sizeOf (readPfm (now (file .entry))))) (sidesIn (now (width .entry)) (now (height .entry))) (sidesIn (now (width .exit)) (now (height .exit))) ⌝ }
+    ensures { λ n. ⌜ HostTold n (sizeGiven (sizeOf (readPfm (now (file .entry))))) (sidesIn (now (width .entry)) (now (height .entry))) (sidesIn (now (width .exit)) (now (height .exit))) ⌝ }
 {
     tell_size(pfm_size(file), width, height)
 }
@@ -79,7 +79,7 @@ pub extern "C" fn plombrisa_read_pfm(
     width: &mut u64,
     height: &mut u64,
 ) -> u32
-    ensures { λ n. ⌜ RasterTold n (readPfm (now (file .entry))) (now (out .entry)) (now (out .exit)) (sidesIn (now (width .entry)) (now (height .entry))) (sidesIn (now (width .exit)) (now (height .exit))) ⌝ }
+    ensures { λ n. ⌜ HostRaster n (readPfm (now (file .entry))) (now (out .entry)) (now (out .exit)) (sidesIn (now (width .entry)) (now (height .entry))) (sidesIn (now (width .exit)) (now (height .exit))) ⌝ }
 {
     tell_size(read_pfm(file, out), width, height)
 }

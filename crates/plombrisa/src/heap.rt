@@ -4,9 +4,9 @@ use crate::told::tell_shape;
 use volume::heap::heap_shape;
 use volume::heap::heap_volume;
 use volume::site::Site;
-ghost use Rattle.volume.specs.Outcome.{shapeOf};
+ghost use Rattle.volume.specs.Outcome.{gridShape};
 ghost use Rattle.volume.specs.Given.{shapeGiven};
-ghost use Rattle.plombrisa.specs.Answers.{Told, gridIn, figuresIn, VolumeTold};
+ghost use Rattle.plombrisa.specs.Host.{HostTold, gridIn, figuresIn, HostHeap};
 ghost use Rattle.plombrisa.specs.Options.{siteOf};
 
 // The cells of a row and the rows of a site's grid.
@@ -21,7 +21,7 @@ pub extern "C" fn plombrisa_heap_shape(
     columns: &mut u64,
     rows: &mut u64,
 ) -> u32
-    ensures { λ n. ⌜ Told n (shapeGiven (shapeOf (siteOf left right top bottom cell floor))) (gridIn (now (columns .entry)) (now (rows .entry))) (gridIn (now (columns .exit)) (now (rows .exit))) ⌝ }
+    ensures { λ n. ⌜ HostTold n (shapeGiven (gridShape (siteOf left right top bottom cell floor))) (gridIn (now (columns .entry)) (now (rows .entry))) (gridIn (now (columns .exit)) (now (rows .exit))) ⌝ }
 {
     let site = Site {
         left,
@@ -52,7 +52,7 @@ pub extern "C" fn plombrisa_heap_volume(
     outside: &mut u64,
     empty: &mut u64,
 ) -> u32
-    ensures { λ n. ⌜ VolumeTold n (siteOf left right top bottom cell floor) (now (xs .entry)) (now (ys .entry)) (now (zs .entry)) (now (grid .entry)) (now (grid .exit)) (figuresIn (now (volume .entry)) (now (inside .entry)) (now (outside .entry)) (now (empty .entry))) (figuresIn (now (volume .exit)) (now (inside .exit)) (now (outside .exit)) (now (empty .exit))) ⌝ }
+    ensures { λ n. ⌜ HostHeap n (siteOf left right top bottom cell floor) (now (xs .entry)) (now (ys .entry)) (now (zs .entry)) (now (grid .entry)) (now (grid .exit)) (figuresIn (now (volume .entry)) (now (inside .entry)) (now (outside .entry)) (now (empty .entry))) (figuresIn (now (volume .exit)) (now (inside .exit)) (now (outside .exit)) (now (empty .exit))) ⌝ }
 {
     let site = Site {
         left,

@@ -12,12 +12,13 @@ mod told;
 
 ghost use mathlib.Core.Path.{_≡_};
 ghost use lib.ListN.{length};
-ghost use Rattle.costs.specs.Outcome.{rawCall, RawDone};
-ghost use Rattle.matching.specs.Outcome.{matchCall, MatchDone};
+ghost use Rattle.costs.specs.Outcome.{rawCall, RawOutcome};
+ghost use Rattle.matching.specs.Outcome.{matchCall, MatchOutcome};
 ghost use Rattle.plombrisa.specs.Options.{sideOf, rawOptions, matchOptions};
 use costs::raw_volume;
 use matching::match_block;
 use options::BlockMatchOptions;
+use options::Mode;
 use options::Side;
 
 // The map of two pictures: 0, or the number of the refusal.
@@ -44,7 +45,7 @@ pub extern "C" fn plombrisa_match_block(
     whole_room: &mut [u64],
     float_room: &mut [f32],
 ) -> u32
-    ensures { λ n. ⌜ MatchDone n (matchCall (now (left .entry)) «left_width» «left_height» (now (right .entry)) «right_width» «right_height» (matchOptions «min_disparity» «num_disparities» «block_size» «min_correlation» «uniqueness_ratio» «lr_consistency» «lr_max_diff» subpixel «semi_global» «sgm_p1» «sgm_p2») (length (now (out .entry))) (length (now («whole_room» .entry))) (length (now («float_room» .entry)))) (matchOptions «min_disparity» «num_disparities» «block_size» «min_correlation» «uniqueness_ratio» «lr_consistency» «lr_max_diff» subpixel «semi_global» «sgm_p1» «sgm_p2») (now (left .entry)) (now (right .entry)) (now (out .entry)) (now (out .exit)) (now («whole_room» .entry)) (now («whole_room» .exit)) (now («float_room» .entry)) (now («float_room» .exit)) ⌝ }
+    ensures { λ n. ⌜ MatchOutcome n (matchCall (now (left .entry)) «left_width» «left_height» (now (right .entry)) «right_width» «right_height» (matchOptions «min_disparity» «num_disparities» «block_size» «min_correlation» «uniqueness_ratio» «lr_consistency» «lr_max_diff» subpixel «semi_global» «sgm_p1» «sgm_p2») (length (now (out .entry))) (length (now («whole_room» .entry))) (length (now («float_room» .entry)))) (matchOptions «min_disparity» «num_disparities» «block_size» «min_correlation» «uniqueness_ratio» «lr_consistency» «lr_max_diff» subpixel «semi_global» «sgm_p1» «sgm_p2») (now (left .entry)) (now (right .entry)) (now (out .entry)) (now (out .exit)) (now («whole_room» .entry)) (now («whole_room» .exit)) (now («float_room» .entry)) (now («float_room» .exit)) ⌝ }
 {
     let opts = BlockMatchOptions {
         min_disparity,
@@ -55,7 +56,7 @@ pub extern "C" fn plombrisa_match_block(
         lr_consistency,
         lr_max_diff,
         subpixel,
-        semi_global,
+        mode: Mode::of_flag(semi_global),
         sgm_p1,
         sgm_p2,
     };
@@ -96,7 +97,7 @@ pub extern "C" fn plombrisa_raw_volume(
     out: &mut [f32],
     whole_room: &mut [u64],
 ) -> u32
-    ensures { λ n. ⌜ RawDone n (rawCall (now (left .entry)) «left_width» «left_height» (now (right .entry)) «right_width» «right_height» (rawOptions «min_disparity» «num_disparities» «block_size») (length (now (out .entry))) (length (now («whole_room» .entry)))) (sideOf «from_right») (now (left .entry)) (now (right .entry)) (now (out .entry)) (now (out .exit)) (now («whole_room» .entry)) (now («whole_room» .exit)) ⌝ }
+    ensures { λ n. ⌜ RawOutcome n (rawCall (now (left .entry)) «left_width» «left_height» (now (right .entry)) «right_width» «right_height» (rawOptions «min_disparity» «num_disparities» «block_size») (length (now (out .entry))) (length (now («whole_room» .entry)))) (sideOf «from_right») (now (left .entry)) (now (right .entry)) (now (out .entry)) (now (out .exit)) (now («whole_room» .entry)) (now («whole_room» .exit)) ⌝ }
 {
     let mut opts = BlockMatchOptions::defaults();
     opts.min_disparity = min_disparity;

@@ -1,7 +1,7 @@
 // A map's figures, for hosts: 0, or the number of the refusal, which leaves what is lent as it was.
 ghost use Rattle.maps.specs.Map.{validCount, validRange, coverOf};
 ghost use Rattle.maps.specs.Given.{numberGiven, extentGiven};
-ghost use Rattle.plombrisa.specs.Answers.{Told, spanIn, RangeTold};
+ghost use Rattle.plombrisa.specs.Host.{HostTold, spanIn, HostRange};
 use maps::Extent;
 use maps::Number;
 use maps::count_valid;
@@ -10,7 +10,7 @@ use maps::range_valid;
 
 // What an answer says, with its number of cells or its cover in the lent number.
 fn tell(answer: Number, number: &mut u64) -> u32
-    ensures { λ n. ⌜ Told n (numberGiven answer) (now (number .entry)) (now (number .exit)) ⌝ }
+    ensures { λ n. ⌜ HostTold n (numberGiven answer) (now (number .entry)) (now (number .exit)) ⌝ }
 {
     match answer {
         Number::Refused(n) => n as u32,
@@ -29,7 +29,7 @@ pub extern "C" fn plombrisa_valid_count(
     height: usize,
     count: &mut u64,
 ) -> u32
-    ensures { λ n. ⌜ Told n (numberGiven (validCount width height (now (cells .entry)))) (now (count .entry)) (now (count .exit)) ⌝ }
+    ensures { λ n. ⌜ HostTold n (numberGiven (validCount width height (now (cells .entry)))) (now (count .entry)) (now (count .exit)) ⌝ }
 {
     tell(count_valid(width, height, cells), count)
 }
@@ -42,7 +42,7 @@ pub extern "C" fn plombrisa_cover(
     height: usize,
     permille: &mut u64,
 ) -> u32
-    ensures { λ n. ⌜ Told n (numberGiven (coverOf width height (now (cells .entry)))) (now (permille .entry)) (now (permille .exit)) ⌝ }
+    ensures { λ n. ⌜ HostTold n (numberGiven (coverOf width height (now (cells .entry)))) (now (permille .entry)) (now (permille .exit)) ⌝ }
 {
     tell(cover(width, height, cells), permille)
 }
@@ -57,7 +57,7 @@ pub extern "C" fn plombrisa_valid_range(
     least: &mut f32,
     greatest: &mut f32,
 ) -> u32
-    ensures { λ n. ⌜ RangeTold n (extentGiven (validRange width height (now (cells .entry)))) (spanIn (now (some .entry)) (now (least .entry)) (now (greatest .entry))) (spanIn (now (some .exit)) (now (least .exit)) (now (greatest .exit))) ⌝ }
+    ensures { λ n. ⌜ HostRange n (extentGiven (validRange width height (now (cells .entry)))) (spanIn (now (some .entry)) (now (least .entry)) (now (greatest .entry))) (spanIn (now (some .exit)) (now (least .exit)) (now (greatest .exit))) ⌝ }
 {
     match range_valid(width, height, cells) {
         Extent::Refused(n) => n as u32,

@@ -2,7 +2,7 @@
 ghost use Rattle.pictures.specs.Picture.{pixelOf};
 ghost use Rattle.pictures.specs.Bilinear.{sampleOf};
 ghost use Rattle.pictures.specs.Given.{levelGiven, sampleGiven};
-ghost use Rattle.plombrisa.specs.Answers.{Told};
+ghost use Rattle.plombrisa.specs.Host.{HostTold};
 use pictures::Level;
 use pictures::Sample;
 use pictures::bilinear;
@@ -18,7 +18,7 @@ pub extern "C" fn plombrisa_pixel(
     y: usize,
     level: &mut u8,
 ) -> u32
-    ensures { λ n. ⌜ Told n (levelGiven (pixelOf (now (pic .entry)) width height x y)) (now (level .entry)) (now (level .exit)) ⌝ }
+    ensures { λ n. ⌜ HostTold n (levelGiven (pixelOf (now (pic .entry)) width height x y)) (now (level .entry)) (now (level .exit)) ⌝ }
 {
     match pixel(pic, width, height, x, y) {
         Level::Refused(n) => n as u32,
@@ -39,7 +39,7 @@ pub extern "C" fn plombrisa_bilinear(
     y: f64,
     value: &mut f64,
 ) -> u32
-    ensures { λ n. ⌜ Told n (sampleGiven (sampleOf (now (pic .entry)) width height x y)) (now (value .entry)) (now (value .exit)) ⌝ }
+    ensures { λ n. ⌜ HostTold n (sampleGiven (sampleOf (now (pic .entry)) width height x y)) (now (value .entry)) (now (value .exit)) ⌝ }
 {
     match bilinear(pic, width, height, x, y) {
         Sample::Refused(n) => n as u32,

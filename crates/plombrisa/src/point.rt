@@ -1,7 +1,7 @@
 // The point of a pixel and a disparity, and the list of a map's points, for hosts.
 ghost use Rattle.points.specs.Point.{pointOf};
 ghost use Rattle.points.specs.Given.{pointGiven, filledGiven};
-ghost use Rattle.plombrisa.specs.Answers.{Told, pointIn, PointTold, PointsTold};
+ghost use Rattle.plombrisa.specs.Host.{HostTold, pointIn, HostPoint, HostPoints};
 ghost use Rattle.plombrisa.specs.Options.{intrinsicsOf};
 use points::Filled;
 use points::Intrinsics;
@@ -25,7 +25,7 @@ pub extern "C" fn plombrisa_rectified_point(
     py: &mut f64,
     pz: &mut f64,
 ) -> bool
-    ensures { λ r. ⌜ PointTold r (pointGiven (pointOf (intrinsicsOf fx fy cx cy baseline) x y disparity)) (pointIn (now (px .entry)) (now (py .entry)) (now (pz .entry))) (pointIn (now (px .exit)) (now (py .exit)) (now (pz .exit))) ⌝ }
+    ensures { λ r. ⌜ HostPoint r (pointGiven (pointOf (intrinsicsOf fx fy cx cy baseline) x y disparity)) (pointIn (now (px .entry)) (now (py .entry)) (now (pz .entry))) (pointIn (now (px .exit)) (now (py .exit)) (now (pz .exit))) ⌝ }
 {
     let k = Intrinsics {
         fx,
@@ -47,7 +47,7 @@ pub extern "C" fn plombrisa_rectified_point(
 
 // What an answer says, with the number of records in the lent number.
 fn tell_filled(answer: Filled, count: &mut u64) -> u32
-    ensures { λ n. ⌜ Told n (filledGiven answer) (now (count .entry)) (now (count .exit)) ⌝ }
+    ensures { λ n. ⌜ HostTold n (filledGiven answer) (now (count .entry)) (now (count .exit)) ⌝ }
 {
     match answer {
         Filled::Refused(n) => n as u32,
@@ -73,7 +73,7 @@ pub extern "C" fn plombrisa_points(
     list: &mut [PointRecord],
     count: &mut u64,
 ) -> u32
-    ensures { λ n. ⌜ PointsTold n width height (now (cells .entry)) (intrinsicsOf fx fy cx cy baseline) (now (list .entry)) (now (list .exit)) (now (count .entry)) (now (count .exit)) ⌝ }
+    ensures { λ n. ⌜ HostPoints n width height (now (cells .entry)) (intrinsicsOf fx fy cx cy baseline) (now (list .entry)) (now (list .exit)) (now (count .entry)) (now (count .exit)) ⌝ }
 {
     let k = Intrinsics {
         fx,

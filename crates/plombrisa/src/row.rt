@@ -1,7 +1,7 @@
 // The row index beside a map, for hosts: 0, or the number of the refusal, which leaves what is lent as it was. A slice of structs is
 // passed on, so that the two exports are proved by hand.
 ghost use mathlib.Core.Path.{_≡_};
-ghost use Rattle.rows.specs.Index.{FreshDone, EditDone};
+ghost use Rattle.rows.specs.Index.{FreshOutcome, EditOutcome};
 ghost use Rattle.plombrisa.specs.Options.{editOf};
 use maps::Cell;
 use rows::Edit;
@@ -17,7 +17,7 @@ pub extern "C" fn plombrisa_fresh_index(
     height: usize,
     index: &mut [RowRecord],
 ) -> u32
-    ensures { λ n. ⌜ FreshDone n width height (now (cells .entry)) (now (index .entry)) (now (index .exit)) ⌝ }
+    ensures { λ n. ⌜ FreshOutcome n width height (now (cells .entry)) (now (index .entry)) (now (index .exit)) ⌝ }
 {
     fresh_index(index, width, height, cells)
 }
@@ -41,7 +41,7 @@ pub extern "C" fn plombrisa_edit_cell(
     value: f32,
     index: &mut [RowRecord],
 ) -> u32
-    ensures { λ n. ⌜ EditDone n width height (editOf x y value) (now (cells .entry)) (now (cells .exit)) (now (index .entry)) (now (index .exit)) ⌝ }
+    ensures { λ n. ⌜ EditOutcome n width height (editOf x y value) (now (cells .entry)) (now (cells .exit)) (now (index .entry)) (now (index .exit)) ⌝ }
 {
     let edit = edit_of(x, y, value);
     edit_cell(index, width, height, cells, edit)

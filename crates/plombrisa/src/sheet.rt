@@ -1,11 +1,11 @@
 // A map's sheet written and read, for hosts: 0, or the number of the refusal, which leaves what is lent as it was. A kind is given by
 // its number.
 ghost use Rattle.sheets.specs.Sheet.{sheetOf, readSheet};
-ghost use Rattle.lists.specs.Writes.{byteCount};
-ghost use Rattle.lists.specs.Given.{writtenGiven};
+ghost use Rattle.refusals.specs.Writes.{byteCount};
+ghost use Rattle.refusals.specs.Given.{writtenGiven};
 ghost use Rattle.sheets.specs.Outcome.{sizeSaid};
 ghost use Rattle.sheets.specs.Given.{saidGiven};
-ghost use Rattle.plombrisa.specs.Answers.{Told, sheetIn, WriteTold, ReadTold};
+ghost use Rattle.plombrisa.specs.Host.{HostTold, sheetIn, HostWritten, HostSheet};
 use crate::told::tell_bytes;
 use sheets::reading::Said;
 use sheets::reading::read_sheet;
@@ -22,7 +22,7 @@ pub extern "C" fn plombrisa_sheet_length(
     kind: u64,
     count: &mut u64,
 ) -> u32
-    ensures { λ n. ⌜ Told n (writtenGiven (byteCount (sheetOf kind width height (now (cells .entry))))) (now (count .entry)) (now (count .exit)) ⌝ }
+    ensures { λ n. ⌜ HostTold n (writtenGiven (byteCount (sheetOf kind width height (now (cells .entry))))) (now (count .entry)) (now (count .exit)) ⌝ }
 {
     tell_bytes(sheet_length(cells, width, height, kind), count)
 }
@@ -37,14 +37,14 @@ pub extern "C" fn plombrisa_write_sheet(
     out: &mut [u8],
     count: &mut u64,
 ) -> u32
-    ensures { λ n. ⌜ WriteTold 33 n (sheetOf kind width height (now (cells .entry))) (now (out .entry)) (now (out .exit)) (now (count .entry)) (now (count .exit)) ⌝ }
+    ensures { λ n. ⌜ HostWritten 33 n (sheetOf kind width height (now (cells .entry))) (now (out .entry)) (now (out .exit)) (now (count .entry)) (now (count .exit)) ⌝ }
 {
     tell_bytes(write_sheet(cells, width, height, kind, out), count)
 }
 
 // What an answer says, with kind, width and height in the lent numbers.
 fn tell_said(answer: Said, kind: &mut u64, width: &mut u64, height: &mut u64) -> u32
-    ensures { λ n. ⌜ Told n (saidGiven answer) (sheetIn (now (kind .entry)) (now (width .entry)) (now (height .entry))) (sheetIn (now (kind .exit)) (now (width .exit)) (now (height .exit))) ⌝ }
+    ensures { λ n. ⌜ HostTold n (saidGiven answer) (sheetIn (now (kind .entry)) (now (width .entry)) (now (height .entry))) (sheetIn (now (kind .exit)) (now (width .exit)) (now (height .exit))) ⌝ }
 {
     match answer {
         Said::Refused(n) => n as u32,
@@ -65,7 +65,7 @@ pub extern "C" fn plombrisa_sheet_size(
     width: &mut u64,
     height: &mut u64,
 ) -> u32
-    ensures { λ n. ⌜ Told n (saidGiven (sizeSaid (readSheet (now (sheet .entry))))) (sheetIn (now (kind .entry)) (now (width .entry)) (now (height .entry))) (sheetIn (now (kind .exit)) (now (width .exit)) (now (height .exit))) ⌝ }
+    ensures { λ n. ⌜ HostTold n (saidGiven (sizeSaid (readSheet (now (sheet .entry))))) (sheetIn (now (kind .entry)) (now (width .entry)) (now (height .entry))) (sheetIn (now (kind .exit)) (now (width .exit)) (now (height .exit))) ⌝ }
 {
     tell_said(sheet_size(sheet), kind, width, height)
 }
@@ -79,7 +79,7 @@ pub extern "C" fn plombrisa_read_sheet(
     width: &mut u64,
     height: &mut u64,
 ) -> u32
-    ensures { λ n. ⌜ ReadTold n (readSheet (now (sheet .entry))) (now (out .entry)) (now (out .exit)) (sheetIn (now (kind .entry)) (now (width .entry)) (now (height .entry))) (sheetIn (now (kind .exit)) (now (width .exit)) (now (height .exit))) ⌝ }
+    ensures { λ n. ⌜ HostSheet n (readSheet (now (sheet .entry))) (now (out .entry)) (now (out .exit)) (sheetIn (now (kind .entry)) (now (width .entry)) (now (height .entry))) (sheetIn (now (kind .exit)) (now (width .exit)) (now (height .exit))) ⌝ }
 {
     tell_said(read_sheet(sheet, out), kind, width, height)
 }

@@ -16,7 +16,7 @@ use Rattle.lists.proofs.Tests.{and-both}
 use Rattle.options.specs.Limits.{sideMost}
 use Rattle.points.specs.declared.Intrinsics.{Intrinsics}
 use Rattle.points.specs.Point.{isPositive}
-use Rattle.points.specs.Records.{pointsIn, recordOf, recordsFrom}
+use Rattle.points.specs.Records.{pointsIn, pointRecord, recordsFrom}
 
 -- ---- a test that sends a caller back, by what the test says
 pub failed : {t p : Bool} → t ≡ p → not t ≡ true → p ≡ false
@@ -36,7 +36,7 @@ module _ (cells : List Float) (i : ℕ) (b : i < length cells) where
   points-same q = rw (add-one, drop-cons cells i nan, q) (omega arith)
 
   pub records-more : (w : ℕ) (k : Intrinsics) → isPositive (getD cells i nan) ≡ true
-      → recordsFrom w k i (drop i cells) ≡ recordOf w k i (getD cells i nan) ∷ recordsFrom w k (i + 1) (drop (i + 1) cells)
+      → recordsFrom w k i (drop i cells) ≡ pointRecord w k i (getD cells i nan) ∷ recordsFrom w k (i + 1) (drop (i + 1) cells)
   unfolding recordsFrom
   records-more w k q = rw (add-one, drop-cons cells i nan, q)
 

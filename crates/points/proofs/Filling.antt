@@ -3,26 +3,25 @@
 --     Filling     the loop's state: n records are written, and the next one is that of a cell from `at` on
 --     begins, goes-on, ended     the state before the loop, after a turn, and what the list is at the end
 use mathlib.Core.Path.{_≡_, refl, sym, ap, _∙_}
-use Prim.Native.Nat.{ℕ, zero, suc, _+_, _*_, _-_, _≤_, _<_, _^_}
+use Prim.Native.Nat.{ℕ, zero, suc, _+_, _*_, _≤_, _<_, _^_}
 use native.Mathlib.Numerals.{add-one}
 use native.Mathlib.Nat.{le-antisymm}
 use native.Mathlib.Omega.{arith}
-use mathlib.Core.Bool.{Bool, true, false, cond}
 use mathlib.Core.List.{List, [], _∷_, _++_, append-assoc}
-use borrow.Author.Tests.{leb-true}
+use borrow.Author.Tests.{ltb-false, not-false}
 use lib.ListN.{length, getD, take, drop, set, length-append, length-drop}
 use lib.Seq.{drop-cons, take-suc, take-length, set-at, length-take-le}
-use lib.Dec.{leb}
+use lib.Dec.{lit<}
 use lib.Ieee.{Float}
 use Rattle.options.specs.Limits.{sideMost}
+use Rattle.refusals.specs.Answered.{Row, firstOf}
+use Rattle.refusals.specs.Outcome.{after}
+use Rattle.refusals.proofs.Answering.{none-of}
 use Rattle.maps.specs.Map.{goodSize}
 use Rattle.maps.proofs.Facts.{good, pixels-small}
 use Rattle.points.specs.declared.Intrinsics.{Intrinsics}
 use Rattle.points.specs.declared.PointRecord.{PointRecord}
-use Rattle.points.specs.declared.Filled.{Filled}
-use Rattle.points.specs.declared.Filled.the-variants.{Written, Refused}
-use Rattle.points.specs.Point.{goodCamera, goodBaseline}
-use Rattle.points.specs.Records.{pointsIn, recordsFrom, answerOf, countOf, after, listAfter}
+use Rattle.points.specs.Records.{pointsIn, recordsFrom, pointRows, listAfter}
 use Rattle.points.proofs.Laws.{records-length}
 
 -- one more of the records rs stands in place of one more of ls
@@ -47,16 +46,16 @@ module _ (rs ls : List PointRecord) (n : ℕ) (p : PointRecord) (rest : List Poi
       ∙ (ap (λ (l : List PointRecord). l ++ drop (suc n) ls) (sym front)
       ∙ ap (λ (m : ℕ). take (n + 1) rs ++ drop m ls) (sym (add-one n)))))
 
--- the answer, by its four tests
-abbrev answer : Bool → Bool → Bool → Bool → ℕ → Filled
-answer a b c d m = cond a (cond b (cond c (cond d (Written m) (Refused 24)) (Refused 23)) (Refused 22)) (Refused 21)
-
 module _ (w h : ℕ) (cells : List Float) (k : Intrinsics) (list : List PointRecord) where
   abbrev records : List PointRecord
   records = recordsFrom w k 0 cells
 
-  abbrev said : Filled
-  said = answerOf w h cells k (length list)
+  abbrev rows : List Row
+  rows = pointRows w h cells k (length list)
+
+  -- how many records there are to write, after the refusal n
+  abbrev toWrite : ℕ → ℕ
+  toWrite n = after n (pointsIn cells) 0
 
   -- there is room, and where a record is to be written the map has a good size
   pub record Ready (count : ℕ) : Type 0 where
@@ -65,42 +64,33 @@ module _ (w h : ℕ) (cells : List Float) (k : Intrinsics) (list : List PointRec
     pub wide : 0 < count → 0 < w
     pub few : 0 < count → length cells ≤ sideMost * sideMost
 
-  -- a refusal has no record to write
-  none : Ready 0
-  none = record { fits = omega arith; all = λ z. absurd (omega (arith, z)); wide = λ z. absurd (omega (arith, z)); few = λ z. absurd (omega (arith, z)) }
-
-  ready-by : (a b c d : Bool) → a ≡ goodCamera k → b ≡ goodBaseline k → c ≡ goodSize w h (length cells) → d ≡ leb (pointsIn cells) (length list) → Ready (countOf (answer a b c d (pointsIn cells)))
-  ready-by true true true true ea eb ec ed =
-      let g = good w h (length cells) (sym ec) in
-      record {
-        fits = leb-true (pointsIn cells) (length list) (sym ed);
-        all = λ _. sym (records-length w k 0 cells);
-        wide = λ _. g .wide;
-        few = λ _. omega (arith, g .long, pixels-small w h (g .narrow) (g .low));
-      }
-  ready-by true true true false ea eb ec ed = none
-  ready-by true true false d ea eb ec ed = none
-  ready-by true false c d ea eb ec ed = none
-  ready-by false b c d ea eb ec ed = none
-
-  pub ready : (count : ℕ) → count ≡ countOf said → Ready count
-  unfolding answerOf
-  ready count e = rw e (ready-by (goodCamera k) (goodBaseline k) (goodSize w h (length cells)) (leb (pointsIn cells) (length list)) refl refl refl refl)
+  pub ready : (count : ℕ) → count ≡ toWrite (firstOf rows) → Ready count
+  ready count e = rw e (go (firstOf rows) refl)
+    where
+      go : (n : ℕ) → firstOf rows ≡ n → Ready (toWrite n)
+      go zero none =
+          let tests = none-of rows (lit< tt, (lit< tt, (lit< tt, (lit< tt, tt)))) none in
+          let g = good w h (length cells) (not-false (goodSize w h (length cells)) (tests .1 .1 .0)) in
+          record {
+            fits = ltb-false (length list) (pointsIn cells) (tests .1 .1 .1 .0);
+            all = λ _. sym (records-length w k 0 cells);
+            wide = λ _. g .wide;
+            few = λ _. omega (arith, g .long, pixels-small w h (g .narrow) (g .low));
+          }
+      -- a refusal has no record to write
+      go (suc n) some = record { fits = omega arith; all = λ z. absurd (omega (arith, z)); wide = λ z. absurd (omega (arith, z)); few = λ z. absurd (omega (arith, z)) }
 
   -- n records are written
   abbrev pub upto : ℕ → List PointRecord
   upto n = take n records ++ drop n list
 
-  whole-by : (a b c d : Bool) (m : ℕ) → m ≡ length records → upto (countOf (answer a b c d m)) ≡ after (answer a b c d m) records list
-  whole-by true true true true m e = ap (λ (l : List PointRecord). l ++ drop m list) (ap (λ (n : ℕ). take n records) e ∙ take-length records)
-  whole-by true true true false m e = refl
-  whole-by true true false d m e = refl
-  whole-by true false c d m e = refl
-  whole-by false b c d m e = refl
-
-  pub whole : upto (countOf said) ≡ listAfter w h cells k list
-  unfolding answerOf listAfter
-  whole = whole-by (goodCamera k) (goodBaseline k) (goodSize w h (length cells)) (leb (pointsIn cells) (length list)) (pointsIn cells) (sym (records-length w k 0 cells))
+  pub whole : upto (toWrite (firstOf rows)) ≡ listAfter w h cells k list
+  unfolding listAfter
+  whole = go (firstOf rows)
+    where
+      go : (n : ℕ) → upto (toWrite n) ≡ after n (records ++ drop (pointsIn cells) list) list
+      go zero = ap (λ (l : List PointRecord). l ++ drop (pointsIn cells) list) (ap (λ (n : ℕ). take n records) (sym (records-length w k 0 cells)) ∙ take-length records)
+      go (suc n) = refl
 
   -- the loop's state
   pub record Filling (count : ℕ) : Type 0 where
@@ -156,5 +146,5 @@ module _ (w h : ℕ) (cells : List Float) (k : Intrinsics) (list : List PointRec
         goes-on = record { n = f .n + 1; at = at; now = set (f .now) (f .n) p; most = one-most; at-fits = fits; done = one-done; left = one-left }
 
     -- the list at the end
-    pub ended : count ≡ countOf said → count ≤ f .n → f .now ≡ listAfter w h cells k list
+    pub ended : count ≡ toWrite (firstOf rows) → count ≤ f .n → f .now ≡ listAfter w h cells k list
     ended e over = f .done ∙ (ap upto (le-antisymm (f .most) over ∙ e) ∙ whole)

@@ -2,7 +2,7 @@
 use Prim.Native.Nat.{ℕ}
 use mathlib.Core.Option.{Option, none, some}
 use lib.Ieee.{Float}
-use Rattle.lists.specs.Steps.{Or, is, refused}
+use Rattle.refusals.specs.Steps.{Or, is, refused}
 use Rattle.points.specs.declared.Point3.{Point3}
 use Rattle.points.specs.declared.Point3.the-variants as point3
 use Rattle.points.specs.declared.Filled.{Filled}

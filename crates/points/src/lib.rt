@@ -9,8 +9,10 @@ ghost use Prim.Native.Nat.{_*_, _<_, _≤_};
 ghost use lib.ListN.{length, drop};
 ghost use lib.Ieee.Scale.{finite};
 ghost use Rattle.options.specs.Limits.{sideMost};
+ghost use Rattle.refusals.specs.Answered.{firstOf};
+ghost use Rattle.refusals.specs.Outcome.{after};
 ghost use Rattle.points.specs.Point.{depthOf, acrossOf, downOf, isPositive, pointOf, goodCamera, goodBaseline};
-ghost use Rattle.points.specs.Records.{pointsIn, recordOf, recordsFrom, answerOf, countOf, listAfter};
+ghost use Rattle.points.specs.Records.{pointsIn, pointRecord, recordsFrom, pointRows, filledFor, PointsOutcome};
 
 // The camera's numbers and the baseline.
 pub struct Intrinsics {
@@ -153,9 +155,9 @@ fn points_in(cells: &[f32]) -> usize
 }
 
 // The record of the cell at i of a map, a number c.
-fn record_of(width: usize, k: Intrinsics, i: usize, c: f32) -> PointRecord
+fn point_record(width: usize, k: Intrinsics, i: usize, c: f32) -> PointRecord
     requires { ⌜ (0 < width) × ((i ≤ sideMost * sideMost) × (finite c ≡ true)) ⌝ }
-    ensures { λ r. ⌜ r ≡ recordOf width k i c ⌝ }
+    ensures { λ r. ⌜ r ≡ pointRecord width k i c ⌝ }
 {
     let column = i % width;
     let row = i / width;
@@ -182,43 +184,55 @@ fn next_record(width: usize, cells: &[f32], k: Intrinsics, at: usize) -> Step
     while !is_point(cells[i]) {
         i += 1;
     }
-    let record = record_of(width, k, i, cells[i]);
+    let record = point_record(width, k, i, cells[i]);
     Step {
         record,
         next: i + 1,
     }
 }
 
-// What `points` is to do with a list of `room` records.
-fn planned(room: usize, width: usize, height: usize, cells: &[f32], k: Intrinsics) -> Plan
-    ensures { λ r. ⌜ (r .answer ≡ answerOf width height (now (cells .entry)) k room) × (r .count ≡ countOf (answerOf width height (now (cells .entry)) k room)) ⌝ }
+// What a list of `room` records for the points of a map, `count` of them, is refused with, 0 for none.
+fn point_refusal(
+    room: usize,
+    width: usize,
+    height: usize,
+    cells: &[f32],
+    k: Intrinsics,
+    count: usize,
+) -> u8
+    requires { ⌜ count ≡ pointsIn (now cells) ⌝ }
+    ensures { λ n. ⌜ n ≡ firstOf (pointRows width height (now (cells .entry)) k room) ⌝ }
 {
     if !camera_good(k) {
-        return refused(21);
+        return 21;
     }
     if !baseline_good(k) {
-        return refused(22);
+        return 22;
     }
     if !maps::size_good(width, height, cells.len()) {
-        return refused(23);
+        return 23;
     }
-    let count = points_in(cells);
     if room < count {
-        return refused(24);
+        return 24;
+    }
+    0
+}
+
+// What `points` is to do with a list of `room` records.
+fn planned(room: usize, width: usize, height: usize, cells: &[f32], k: Intrinsics) -> Plan
+    ensures { λ r. ⌜ (r .answer ≡ filledFor width height (now (cells .entry)) k room) × (r .count ≡ after (firstOf (pointRows width height (now (cells .entry)) k room)) (pointsIn (now (cells .entry))) 0) ⌝ }
+{
+    let count = points_in(cells);
+    let refused = point_refusal(room, width, height, cells, k, count);
+    if refused != 0 {
+        return Plan {
+            count: 0,
+            answer: Filled::Refused(refused),
+        };
     }
     Plan {
         count,
         answer: Filled::Written(count),
-    }
-}
-
-// The plan of a refusal.
-fn refused(number: u8) -> Plan
-    ensures { λ r. ⌜ (r .answer ≡ Filled.Refused number) × (r .count ≡ 0) ⌝ }
-{
-    Plan {
-        count: 0,
-        answer: Filled::Refused(number),
     }
 }
 
@@ -230,7 +244,7 @@ pub fn points(
     cells: &[f32],
     k: Intrinsics,
 ) -> Filled
-    ensures { λ r. ⌜ (r ≡ answerOf width height (now (cells .entry)) k (length (now (list .entry)))) × (now (list .exit) ≡ listAfter width height (now (cells .entry)) k (now (list .entry))) ⌝ }
+    ensures { λ r. ⌜ PointsOutcome r width height (now (cells .entry)) k (now (list .entry)) (now (list .exit)) ⌝ }
 {
     let plan = planned(list.len(), width, height, cells, k);
     let mut n: usize = 0;

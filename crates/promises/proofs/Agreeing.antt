@@ -24,7 +24,7 @@ column-in : (w x : ℕ) (d : Float) → x < w → w ≤ sideMost → T (finite d
 unfolding ofBits
 column-in w x d lx lw f e =
     let t = or-false (lt (column x d) (ofBits binary32 0)) (le (ofInt binary32 (pos w)) (column x d)) e in
-    column-index (column x d) w (omega arith) lw (column-number x d (omega arith) f) (t .0) (t .1) .inside
+    column-index (column x d) w (omega arith) (omega (arith, lw)) (column-number x d (omega arith) f) (t .0) (t .1) .inside
 
 -- two right maps with the same row y
 module _ (w : ℕ) (limit : Float) (right right′ : List Float) (y : ℕ) (wide : w ≤ sideMost) (same : rowOf w right y ≡ rowOf w right′ y) where

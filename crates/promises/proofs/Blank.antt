@@ -15,7 +15,8 @@ use Rattle.options.specs.declared.RawCost.the-variants.{Blank, Corr}
 use Rattle.options.specs.declared.Side.{Side}
 use Rattle.options.specs.declared.Side.the-variants.{Left, Right}
 use Rattle.windows.specs.Window as window
-use Rattle.costs.specs.Raw.{within, inFrame, oneLevel, pairCost, targetCost, shiftedCost, shiftOf, rawCost}
+use Rattle.options.specs.Frame.{within, inFrame}
+use Rattle.costs.specs.Raw.{oneLevel, pairCost, targetCost, shiftedCost, shiftOf, rawCost}
 use Rattle.promises.specs.Changes.{Inside, OneLevel}
 
 -- ---- a window inside rows of one level shows one level

@@ -14,12 +14,13 @@ use Rattle.options.specs.Costs.{stored}
 use Rattle.options.specs.declared.BlockMatchOptions.{BlockMatchOptions}
 use Rattle.options.specs.declared.Side.{Side}
 use Rattle.options.specs.declared.Side.the-variants.{Left, Right}
-use Rattle.refusals.specs.declared.Call.{Call}
-use Rattle.refusals.specs.Refusals.{refusal}
+use Rattle.calls.specs.declared.Call.{Call}
+use Rattle.calls.specs.Refusals.{refusal}
 use Rattle.choices.specs.LeftRight.{leftRight}
 use Rattle.costs.proofs.Laws.{volume-cell}
 use Rattle.matching.specs.Maps.{half, countOf, volumeOf, sideMap, mapFrom, mapOf}
-use Rattle.matching.specs.Outcome.{outAfter, MatchDone}
+use Rattle.refusals.proofs.Cases.{after-none}
+use Rattle.matching.specs.Outcome.{MatchOutcome}
 use Rattle.promises.specs.Changes.{Misses, Inside, NoRows, OneLevel, Changed}
 use Rattle.promises.specs.Demand.{BlockMode, Kept}
 use Rattle.promises.proofs.Pairs.{sizes, raw-same, volumes-same}
@@ -114,10 +115,8 @@ demand-three {w} {h} {o} c = record {
 
 -- ---- the output of an accepted match is THE map: demand 3 is of what the calls leave
 pub output-is-map : (n : ℕ) (q : Call) (o : BlockMatchOptions) (left right : List ℕ) (out out′ : List Float) (whole whole′ : List ℕ) (float float′ : List Float)
-    → MatchDone n q o left right out out′ whole whole′ float float′ → refusal q ≡ 0 → out′ ≡ mapOf (q .«left_w») (q .«left_h») o left right
-unfolding outAfter
-output-is-map n q o left right out out′ whole whole′ float float′ d e =
-    d .output ∙ ap (λ k. outAfter k (q .«left_w») (q .«left_h») o left right out) (d .answer ∙ e)
+    → MatchOutcome n q o left right out out′ whole whole′ float float′ → refusal q ≡ 0 → out′ ≡ mapOf (q .«left_w») (q .«left_h») o left right
+output-is-map n q o left right out out′ whole whole′ float float′ d e = d .output ∙ after-none n _ out (d .answer ∙ e)
 
 -- ---- the window rows miss p to q where y + r < p or q < y - r, and only there for a row y of the inner frame
 pub misses-above : (h p q r y : ℕ) → y + r < p → Misses h p q r y

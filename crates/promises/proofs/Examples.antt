@@ -1,7 +1,7 @@
 -- Demand 3 is no empty promise: a worked pair for each of its sentences. Document 01's example pictures, the left made 2·v - 1 and the right 4·v + 3. Assumes nothing.
 use Prim.Native.Nat.{ℕ}
 use mathlib.Core.Path.{_≡_, refl}
-use mathlib.Core.Bool.{Bool, true, false}
+use mathlib.Core.Bool.{true, false}
 use mathlib.Core.Logic.{inl}
 use mathlib.Core.List.{List, [], _∷_, _++_}
 use lib.Dec.{lit≤, lit<}
@@ -15,8 +15,11 @@ use Rattle.numbers.specs.Plain.{magnitudeOf}
 use Rattle.lists.specs.Lists.{listOf, allBelow, walk}
 use Rattle.lists.specs.Rows.{rowOf}
 use Rattle.options.specs.declared.BlockMatchOptions.{BlockMatchOptions}
+use Rattle.options.specs.declared.Mode.{Mode}
+use Rattle.options.specs.declared.Mode.the-variants.{Block, SemiGlobal}
 use Rattle.options.specs.Options.{defaultOptions}
-use Rattle.refusals.specs.Refusals.{firstOf, pictureRows, searchRows, penaltyRows, lentRows, table, refusal}
+use Rattle.refusals.specs.Answered.{firstOf}
+use Rattle.calls.specs.Refusals.{pictureRows, searchRows, penaltyRows, outRows, roomRows, table, refusal}
 use Rattle.lists.specs.Sums.{sumTo, sumRect}
 use Rattle.windows.specs.Window.{windowSum}
 use Rattle.costs.specs.Raw.{rawCost, shiftedCost, targetCost, pairCost, oneLevel, windowVar, windowCov, correlation}
@@ -48,7 +51,7 @@ abbrev right′ : List ℕ
 right′ = rows 7 19 31 11 23
 
 -- two disparities from 0, block 3, left-right and sub-pixel on; the others are the defaults
-abbrev options : Bool → BlockMatchOptions
+abbrev options : Mode → BlockMatchOptions
 options mode = record {
   «min_disparity» = pos 0;
   «num_disparities» = pos 2;
@@ -58,7 +61,7 @@ options mode = record {
   «lr_consistency» = true;
   «lr_max_diff» = defaultOptions .«lr_max_diff»;
   subpixel = true;
-  «semi_global» = mode;
+  mode = mode;
   «sgm_p1» = defaultOptions .«sgm_p1»;
   «sgm_p2» = defaultOptions .«sgm_p2»;
 }
@@ -84,29 +87,29 @@ one = fin false 1 (pos 0)
 
 pub record Examples : Type 0 where
   -- the hypotheses: 5 by 6 pictures with rows 3 to 5 left out, and 5 by 3 pictures with no rows left out, in block and in semi-global mode
-  pub with-rows : Changed 5 6 (options false) 3 5 tall tall-right tall′ tall-right′
+  pub with-rows : Changed 5 6 (options Block) 3 5 tall tall-right tall′ tall-right′
   pub one-left : OneLevel 5 6 3 5 tall′
-  pub with-none : (mode : Bool) → Changed 5 3 (options mode) 1 0 left right left′ right′
+  pub with-none : (mode : Mode) → Changed 5 3 (options mode) 1 0 left right left′ right′
   -- row 1, whose window rows 0 to 2 miss rows 3 to 5, is equal; it has two valid cells
-  pub row-kept : rowOf 5 (mapOf 5 6 (options false) tall tall-right) 1 ≡ rowOf 5 (mapOf 5 6 (options false) tall′ tall-right′) 1
-  pub row-kept-is : rowOf 5 (mapOf 5 6 (options false) tall tall-right) 1 ≡ none ∷ none ∷ one ∷ one ∷ none ∷ []
+  pub row-kept : rowOf 5 (mapOf 5 6 (options Block) tall tall-right) 1 ≡ rowOf 5 (mapOf 5 6 (options Block) tall′ tall-right′) 1
+  pub row-kept-is : rowOf 5 (mapOf 5 6 (options Block) tall tall-right) 1 ≡ none ∷ none ∷ one ∷ one ∷ none ∷ []
   -- row 4, whose window rows 3 to 5 lie inside, is all blank in the second map; in the first it is not
-  pub row-blank : rowOf 5 (mapOf 5 6 (options false) tall′ tall-right′) 4 ≡ replicate 5 nan
-  pub row-blank-was : rowOf 5 (mapOf 5 6 (options false) tall tall-right) 4 ≡ none ∷ none ∷ one ∷ one ∷ none ∷ []
+  pub row-blank : rowOf 5 (mapOf 5 6 (options Block) tall′ tall-right′) 4 ≡ replicate 5 nan
+  pub row-blank-was : rowOf 5 (mapOf 5 6 (options Block) tall tall-right) 4 ≡ none ∷ none ∷ one ∷ one ∷ none ∷ []
   -- the whole maps are equal, in block mode and in semi-global mode
-  pub whole : (mode : Bool) → mapOf 5 3 (options mode) left right ≡ mapOf 5 3 (options mode) left′ right′
+  pub whole : (mode : Mode) → mapOf 5 3 (options mode) left right ≡ mapOf 5 3 (options mode) left′ right′
 
-accepts : (mode : Bool) → AcceptedPair 5 3 (options mode) left right
-unfolding bytes refusal table firstOf pictureRows searchRows penaltyRows lentRows le lt eq ofBits ofFields
-accepts true = record { out = 15; whole = 120; float = 105; accepted = refl; left-levels = levels left refl; right-levels = levels right refl }
-accepts false = record { out = 15; whole = 120; float = 45; accepted = refl; left-levels = levels left refl; right-levels = levels right refl }
+accepts : (mode : Mode) → AcceptedPair 5 3 (options mode) left right
+unfolding bytes refusal table firstOf pictureRows searchRows penaltyRows outRows roomRows le lt eq ofBits ofFields
+accepts SemiGlobal = record { out = 15; whole = 120; float = 105; accepted = refl; left-levels = levels left refl; right-levels = levels right refl }
+accepts Block = record { out = 15; whole = 120; float = 45; accepted = refl; left-levels = levels left refl; right-levels = levels right refl }
 
-accepts′ : (mode : Bool) → AcceptedPair 5 3 (options mode) left′ right′
-unfolding bytes refusal table firstOf pictureRows searchRows penaltyRows lentRows le lt eq ofBits ofFields
-accepts′ true = record { out = 15; whole = 120; float = 105; accepted = refl; left-levels = levels left′ refl; right-levels = levels right′ refl }
-accepts′ false = record { out = 15; whole = 120; float = 45; accepted = refl; left-levels = levels left′ refl; right-levels = levels right′ refl }
+accepts′ : (mode : Mode) → AcceptedPair 5 3 (options mode) left′ right′
+unfolding bytes refusal table firstOf pictureRows searchRows penaltyRows outRows roomRows le lt eq ofBits ofFields
+accepts′ SemiGlobal = record { out = 15; whole = 120; float = 105; accepted = refl; left-levels = levels left′ refl; right-levels = levels right′ refl }
+accepts′ Block = record { out = 15; whole = 120; float = 45; accepted = refl; left-levels = levels left′ refl; right-levels = levels right′ refl }
 
-with-none : (mode : Bool) → Changed 5 3 (options mode) 1 0 left right left′ right′
+with-none : (mode : Mode) → Changed 5 3 (options mode) 1 0 left right left′ right′
 unfolding allBelow
 with-none mode = record {
   first = accepts mode;
@@ -115,8 +118,8 @@ with-none mode = record {
   right-change = change 5 3 1 0 2 (pos 3) right right′ (lit≤ tt) refl;
 }
 
-with-rows : Changed 5 6 (options false) 3 5 tall tall-right tall′ tall-right′
-unfolding allBelow bytes refusal table firstOf pictureRows searchRows penaltyRows lentRows
+with-rows : Changed 5 6 (options Block) 3 5 tall tall-right tall′ tall-right′
+unfolding allBelow bytes refusal table firstOf pictureRows searchRows penaltyRows outRows roomRows
 with-rows = record {
   first = record { out = 30; whole = 210; float = 90; accepted = refl; left-levels = levels tall refl; right-levels = levels tall-right refl };
   second = record { out = 30; whole = 210; float = 90; accepted = refl; left-levels = levels tall′ refl; right-levels = levels tall-right′ refl };

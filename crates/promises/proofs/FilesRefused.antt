@@ -1,6 +1,7 @@
 -- Every refusal of pictures and maps of other shops is reached, by computing. Assumes nothing.
 use mathlib.Core.Path.{refl}
 use lib.Ieee.{isNan, ofBits, ofFields, odd, toBits}
+use Rattle.refusals.specs.Answered.{firstOf}
 use Rattle.lists.specs.Rows.{bottomUp}
 use Rattle.texts.specs.Digits.{decimalText}
 use Rattle.maps.specs.Map.{goodSize}
@@ -8,12 +9,12 @@ use Rattle.netpbm.specs.Header.{startsWith, takeWord, takeWhite, afterBlanks, t
 use Rattle.netpbm.specs.Order.{lowBytes, patternOf, fourBytes, fourPattern}
 use Rattle.netpbm.specs.Raster.{sized}
 use Rattle.netpbm.specs.Pgm.{takePgmHead, readPgm}
-use Rattle.netpbm.specs.Pfm.{cellBytes, cellsBytes, pfmHead, pfmOf, takeSign, takeFraction, takeScale, takePfmHead, cellOf, cellsOf, readPfm}
+use Rattle.netpbm.specs.Pfm.{cellBytes, cellsBytes, pfmHead, pfmOf, takeSign, takeFraction, takeScale, takePfmHead, fileCell, fileCells, readPfm}
 use Rattle.promises.specs.FileWitnesses.{FilesReached}
 
 -- THEOREM: every number of the files is answered for some bytes, some map or some output
 pub files-reached : FilesReached
-unfolding isNan ofBits ofFields odd toBits bottomUp decimalText goodSize startsWith takeWord takeWhite afterBlanks takeBlanks digitsOf takeNumber takeSpaced takeEnded lowBytes patternOf fourBytes fourPattern sized takePgmHead readPgm cellBytes cellsBytes pfmHead pfmOf takeSign takeFraction takeScale takePfmHead cellOf cellsOf readPfm
+unfolding firstOf isNan ofBits ofFields odd toBits bottomUp decimalText goodSize startsWith takeWord takeWhite afterBlanks takeBlanks digitsOf takeNumber takeSpaced takeEnded lowBytes patternOf fourBytes fourPattern sized takePgmHead readPgm cellBytes cellsBytes pfmHead pfmOf takeSign takeFraction takeScale takePfmHead fileCell fileCells readPfm
 files-reached = record {
   pgm-41 = refl;
   pgm-41-comment = refl;

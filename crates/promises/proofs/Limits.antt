@@ -4,14 +4,13 @@ use lib.Ieee.{mul, div, round, size, climb, span, units, odd, lt, le, isNan, ofI
 use Rattle.numbers.specs.Away.{roundedAway}
 use Rattle.lists.specs.Lists.{listOf}
 use Rattle.lists.specs.Sums.{sumTo}
-use Rattle.refusals.specs.Refusals.{firstOf, pictureRows, searchRows, penaltyRows, lentRows, table, refusal}
-use Rattle.pictures.specs.Picture.{shapeOf, levelIn}
+use Rattle.refusals.specs.Answered.{firstOf}
+use Rattle.calls.specs.Refusals.{pictureRows, searchRows, penaltyRows, outRows, roomRows, table, refusal}
 use Rattle.maps.specs.Map.{goodSize, inside}
 use Rattle.points.specs.Point.{isPositive, goodCamera, goodBaseline}
-use Rattle.points.specs.Records.{pointsIn, answerOf}
-use Rattle.rows.specs.Index.{freshRefusal, editRefusal}
+use Rattle.points.specs.Records.{pointsIn, filledFor}
 use Rattle.sheets.specs.Number.{groups, numberBytes, takeGroups, takeNumber}
-use Rattle.sheets.specs.Code.{kindOf, codeOf, cellOf}
+use Rattle.sheets.specs.Code.{kindOf, codeOf, sheetCell}
 use Rattle.sheets.specs.Sheet.{headBytes, cellsBytes, kindSheet, sheetOf, takeVersion, takeSide, takeHead, takeCell, takeCells, readSheet}
 use Rattle.netpbm.specs.Header.{startsWith, takeWord, takeWhite, afterBlanks, takeBlanks, digitsOf, takeNumber as takeDigits, takeSpaced, takeEnded}
 use Rattle.netpbm.specs.Raster.{sized}
@@ -20,12 +19,12 @@ use Rattle.netpbm.specs.Pfm.{takeSign, takeFraction, takeScale, takePfmHead, re
 use Rattle.volume.specs.Metres.{millimetres, goodCoordinate, allGood, goodPoints, spotsOf}
 use Rattle.volume.specs.Rectangle.{above, goodCell, nearSite, multiple, goodSides}
 use Rattle.volume.specs.Heights.{isBetween, isInside, fallsIn, heightOf, heightAt, isEmpty, insideCount, outsideCount, gridOf, emptyCount, volumeOf, figuresOf}
-use Rattle.volume.specs.Outcome.{shapeFor, heapOf}
+use Rattle.volume.specs.Outcome.{gridShape, heapOf}
 use Rattle.promises.specs.LimitWitnesses.{LimitsHeld}
 
 -- THEOREM: what is just allowed is accepted, and what is just not is refused with its number
 pub limits-held : LimitsHeld
-unfolding mul div round size climb span units odd lt le isNan ofInt ofBits ofFields whole toSigned roundedAway listOf sumTo firstOf pictureRows searchRows penaltyRows lentRows table refusal shapeOf levelIn goodSize inside isPositive goodCamera goodBaseline pointsIn answerOf freshRefusal editRefusal groups numberBytes takeGroups takeNumber kindOf codeOf cellOf headBytes cellsBytes kindSheet sheetOf takeVersion takeSide takeHead takeCell takeCells readSheet startsWith takeWord takeWhite afterBlanks takeBlanks digitsOf takeDigits takeSpaced takeEnded sized takePgmHead readPgm takeSign takeFraction takeScale takePfmHead readPfm millimetres goodCoordinate allGood goodPoints spotsOf above goodCell nearSite multiple goodSides isBetween isInside fallsIn heightOf heightAt isEmpty insideCount outsideCount gridOf emptyCount volumeOf figuresOf shapeFor heapOf
+unfolding mul div round size climb span units odd lt le isNan ofInt ofBits ofFields whole toSigned roundedAway listOf sumTo firstOf pictureRows searchRows penaltyRows outRows roomRows table refusal goodSize inside isPositive goodCamera goodBaseline pointsIn filledFor groups numberBytes takeGroups takeNumber kindOf codeOf sheetCell headBytes cellsBytes kindSheet sheetOf takeVersion takeSide takeHead takeCell takeCells readSheet startsWith takeWord takeWhite afterBlanks takeBlanks digitsOf takeDigits takeSpaced takeEnded sized takePgmHead readPgm takeSign takeFraction takeScale takePfmHead readPfm millimetres goodCoordinate allGood goodPoints spotsOf above goodCell nearSite multiple goodSides isBetween isInside fallsIn heightOf heightAt isEmpty insideCount outsideCount gridOf emptyCount volumeOf figuresOf gridShape heapOf
 limits-held = record {
   widths = refl;
   heights = refl;

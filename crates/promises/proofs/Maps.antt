@@ -16,7 +16,7 @@ use Rattle.maps.specs.Cells.{inBuffer}
 use Rattle.choices.specs.declared.block.Best.the-variants.{Nothing}
 use Rattle.choices.specs.declared.block.Gates.{Gates}
 use Rattle.choices.specs.declared.subpixel.Search.{Search}
-use Rattle.choices.specs.Frame.{inner}
+use Rattle.options.specs.Frame.{inner}
 use Rattle.choices.specs.Block.{costsOf, better, bestOf, gated, blockChoice, blockCell}
 use Rattle.matching.specs.Maps.{half, countOf, searchOf, gatesOf}
 use Rattle.matching.proofs.SideMaps.{cellFrom}

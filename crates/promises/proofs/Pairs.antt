@@ -15,8 +15,8 @@ use Rattle.options.specs.Costs.{stored}
 use Rattle.options.specs.declared.BlockMatchOptions.{BlockMatchOptions}
 use Rattle.options.specs.declared.Side.{Side}
 use Rattle.options.specs.declared.Side.the-variants.{Left, Right}
-use Rattle.refusals.specs.Accepted.{Sizes}
-use Rattle.refusals.proofs.Rows.{accepted}
+use Rattle.calls.specs.Accepted.{Sizes}
+use Rattle.calls.proofs.Rows.{accepted}
 use Rattle.windows.specs.Window as window
 use Rattle.windows.proofs.Flat.{pixel, count}
 use Rattle.windows.proofs.Affine.{Affine}

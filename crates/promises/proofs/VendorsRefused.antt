@@ -3,18 +3,19 @@ use mathlib.Core.Path.{refl}
 use lib.Ieee.{toBits, mul, div, ofInt, round, size, climb, span, units, odd, lt, eq, le, sub, sum, add, neg, ofBits, ofFields, isNan}
 use Rattle.numbers.specs.Root.{rootOf, nearestRoot, wholeRoot}
 use Rattle.numbers.specs.Narrow.{narrowed}
-use Rattle.lists.specs.Lists.{allBelow}
+use Rattle.lists.specs.Lists.{allBelow, someBelow, firstNot}
 use Rattle.lists.specs.Sums.{sumTo, sumRect}
 use Rattle.windows.specs.Window.{windowSum}
 use Rattle.costs.specs.Raw.{rawCost, shiftedCost, targetCost, pairCost, oneLevel, windowVar, windowCov, correlation}
-use Rattle.refusals.specs.Refusals.{firstOf, pictureRows, searchRows}
-use Rattle.vendor.specs.Verdict.{someBelow, firstNot, passes, verdictOf}
-use Rattle.vendor.specs.Outcome.{mapRows, vendorRefusal, answerOf}
+use Rattle.refusals.specs.Answered.{firstOf}
+use Rattle.calls.specs.Refusals.{pictureRows, searchRows}
+use Rattle.vendor.specs.Verdict.{passes, verdictOf}
+use Rattle.vendor.specs.Outcome.{mapRows, vendorRefusal}
 use Rattle.promises.specs.VendorWitnesses.{VendorsReached}
 
 -- THEOREM: every number of a check is answered for some pair, map and room, and each reason for a yes and for a no is met
 pub vendors-reached : VendorsReached
-unfolding toBits mul div ofInt round size climb span units odd lt eq le sub sum add neg ofBits ofFields isNan rootOf nearestRoot wholeRoot narrowed allBelow sumTo sumRect windowSum rawCost shiftedCost targetCost pairCost oneLevel windowVar windowCov correlation firstOf pictureRows searchRows someBelow firstNot passes verdictOf mapRows vendorRefusal answerOf
+unfolding toBits mul div ofInt round size climb span units odd lt eq le sub sum add neg ofBits ofFields isNan rootOf nearestRoot wholeRoot narrowed allBelow sumTo sumRect windowSum rawCost shiftedCost targetCost pairCost oneLevel windowVar windowCov correlation firstOf pictureRows searchRows someBelow firstNot passes verdictOf mapRows vendorRefusal
 vendors-reached = record {
   of-1 = refl;
   of-2 = refl;

@@ -1,19 +1,19 @@
 -- Demand 3, of the maps of two pairs of pictures. Definitions only.
 use Prim.Native.Nat.{ℕ, _<_}
 use mathlib.Core.Path.{_≡_}
-use mathlib.Core.Bool.{false}
 use mathlib.Core.Logic.{_⊎_}
 use mathlib.Core.List.{List}
 use lib.ListN.{replicate}
 use lib.Ieee.{nan}
 use Rattle.lists.specs.Rows.{rowOf}
 use Rattle.options.specs.declared.BlockMatchOptions.{BlockMatchOptions}
+use Rattle.options.specs.declared.Mode.the-variants.{Block}
 use Rattle.matching.specs.Maps.{half, mapOf}
 use Rattle.promises.specs.Changes.{Misses, Inside, NoRows, OneLevel}
 
 -- block mode
 abbrev pub BlockMode : BlockMatchOptions → Type 0
-BlockMode o = o .«semi_global» ≡ false
+BlockMode o = o .mode ≡ Block
 
 -- DEMAND 3: what holds of the maps of the first and of the second pair, whatever the gates, with left-right and sub-pixel on or off
 pub record Kept (w h : ℕ) (o : BlockMatchOptions) (p q : ℕ) (left right left′ right′ : List ℕ) : Type 0 where

@@ -2,9 +2,9 @@
 use Prim.Native.Nat.{ℕ}
 use mathlib.Core.Path.{_≡_}
 use mathlib.Core.List.{List, [], _∷_, _++_}
-use Rattle.lists.specs.Steps.{Or, is, refused}
-use Rattle.lists.specs.Writes.{roomFor, byteCount}
-use Rattle.lists.specs.Given.{writtenGiven}
+use Rattle.refusals.specs.Steps.{Or, is, refused}
+use Rattle.refusals.specs.Writes.{roomFor, byteCount}
+use Rattle.refusals.specs.Given.{writtenGiven}
 use Rattle.netpbm.specs.Outcome.{cellsFor, sizeOf}
 use Rattle.netpbm.specs.Given.{Sides, sizeGiven}
 use Rattle.netpbm.specs.Pgm.{readPgm}

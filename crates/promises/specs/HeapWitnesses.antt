@@ -6,8 +6,8 @@ use mathlib.Core.List.{[], _∷_}
 use lib.IntN.{ℤ, pos, negsuc}
 use lib.Ieee.{Float, nan, fin}
 use Rattle.volume.specs.declared.site.Site.{Site}
-use Rattle.lists.specs.Steps.{is, refused}
-use Rattle.volume.specs.Outcome.{shapeOf, heapOf, gridAfter}
+use Rattle.refusals.specs.Steps.{is, refused}
+use Rattle.volume.specs.Outcome.{gridShape, heapOf, gridAfter}
 use Rattle.volume.specs.Given.{shapeGiven, heapGiven}
 use Rattle.promises.specs.Floats.{quarter, half}
 
@@ -47,4 +47,4 @@ pub record HeapsReached : Type 0 where
   -- a point over each cell, both 500 mm high: that height over the rectangle
   pub even : heapGiven (heapOf plain (quarter ∷ half ∷ []) (quarter ∷ quarter ∷ []) (half ∷ half ∷ []) 2)
       ≡ is (record { volume = 250000000; inside = 2; outside = 0; empty = 0 })
-  pub shaped : shapeGiven (shapeOf plain) ≡ is (record { columns = 2; rows = 1 })
+  pub shaped : shapeGiven (gridShape plain) ≡ is (record { columns = 2; rows = 1 })

@@ -1,7 +1,6 @@
 -- Demand 3, its change of pictures and what holds of the two maps; and the numbers given back: when each is answered, and that each can be.
 pub mod Changes
 pub mod Demand
-pub mod Answered
 pub mod Floats
 pub mod Witnesses
 pub mod FileWitnesses

@@ -2,23 +2,28 @@
 -- the smaller test is asked that it is made of. Definitions only.
 use Prim.Native.Nat.{ℕ, _+_, _*_}
 use mathlib.Core.Path.{_≡_}
-use mathlib.Core.Bool.{Bool, true, false}
+use mathlib.Core.Bool.{true, false}
 use mathlib.Core.List.{List, [], _∷_, _++_, map}
 use lib.IntN.{ℤ, pos, negℤ, natAbs}
 use lib.Ieee.{Float, fin, nan, inf, binary32, binary64, ofBits}
-use Rattle.lists.specs.Steps.{Or, is, refused}
-use Rattle.lists.specs.Writes.{byteCount}
-use Rattle.lists.specs.Given.{numberBack, writtenGiven}
-use Rattle.refusals.specs.declared.Call.{Call}
-use Rattle.refusals.specs.declared.Output.{Output}
-use Rattle.refusals.specs.declared.Output.the-variants.{Volume, Map}
-use Rattle.refusals.specs.Refusals.{refusal}
-use Rattle.pictures.specs.Picture.{shapeOf, levelIn}
+use Rattle.refusals.specs.Steps.{Or, is, refused}
+use Rattle.refusals.specs.Writes.{byteCount}
+use Rattle.refusals.specs.Given.{numberBack, writtenGiven}
+use Rattle.options.specs.declared.Mode.{Mode}
+use Rattle.options.specs.declared.Mode.the-variants.{Block, SemiGlobal}
+use Rattle.calls.specs.declared.Call.{Call}
+use Rattle.calls.specs.declared.Output.{Output}
+use Rattle.calls.specs.declared.Output.the-variants.{Volume, Map}
+use Rattle.calls.specs.Refusals.{refusal}
+use Rattle.refusals.specs.Answered.{firstOf}
+use Rattle.refusals.specs.Outcome.{answerFor}
+use Rattle.pictures.specs.declared.Level.the-variants as level
+use Rattle.pictures.specs.Picture.{levelRows}
 use Rattle.pictures.specs.Given.{levelGiven}
 use Rattle.maps.specs.declared.Cell.the-variants.{Mark}
 use Rattle.maps.specs.Map.{goodSize, inside}
 use Rattle.points.specs.declared.Intrinsics.{Intrinsics}
-use Rattle.points.specs.Records.{answerOf}
+use Rattle.points.specs.Records.{filledFor}
 use Rattle.points.specs.Given.{filledGiven}
 use Rattle.rows.specs.Index.{freshRefusal, editRefusal}
 use Rattle.sheets.specs.declared.code.Kind.the-variants.{Whole}
@@ -38,7 +43,7 @@ minus n = negℤ (pos n)
 -- ---- a match
 
 -- a call for pictures w wide and h high with all their bytes: output, mode, first disparity, count, block side, the two penalties, and so many cells lent
-abbrev callOf : Output → Bool → ℕ → ℕ → ℤ → ℤ → ℕ → Float → Float → ℕ → ℕ → ℕ → Call
+abbrev callOf : Output → Mode → ℕ → ℕ → ℤ → ℤ → ℕ → Float → Float → ℕ → ℕ → ℕ → Call
 callOf output mode w h first count block p1 p2 out whole float = record {
   output = output;
   «left_w» = w;
@@ -50,7 +55,7 @@ callOf output mode w h first count block p1 p2 out whole float = record {
   first = first;
   count = count;
   block = block;
-  «semi_global» = mode;
+  mode = mode;
   p1 = p1;
   p2 = p2;
   «out_len» = out;
@@ -61,7 +66,7 @@ callOf output mode w h first count block p1 p2 out whole float = record {
 -- a semi-global match whose output and rooms are exactly long enough
 abbrev matchOf : ℕ → ℕ → ℤ → ℤ → ℕ → Float → Float → Call
 matchOf w h first count block p1 p2 =
-    callOf Map true w h first count block p1 p2 (w * h) (5 * ((w + 1) * (h + 1))) (3 * (natAbs count * (w * h)) + w * h)
+    callOf Map SemiGlobal w h first count block p1 p2 (w * h) (5 * ((w + 1) * (h + 1))) (3 * (natAbs count * (w * h)) + w * h)
 
 -- the f32 next below zero, minus zero, zero, 1,024, the f32 next above it, infinity and a NaN
 abbrev penalties : List Float
@@ -76,14 +81,14 @@ penalties =
     ∷ []
 
 -- of pictures 5 wide and 3 high with two disparities: w·h is 15, V is 30
-abbrev lending : Output → Bool → ℕ → ℕ → ℕ → Call
+abbrev lending : Output → Mode → ℕ → ℕ → ℕ → Call
 lending output mode out whole float = callOf output mode 5 3 (pos 0) (pos 2) 3 one one out whole float
 
 -- ---- a picture
 
 -- what is given back of its first pixel, whose level is 7, for a byte count, a width and a height
 abbrev firstPixel : ℕ → ℕ → ℕ → Or ℕ
-firstPixel bytes w h = levelGiven (levelIn (shapeOf bytes w h) (7 ∷ []) w h 0 0)
+firstPixel bytes w h = levelGiven (answerFor (firstOf (levelRows bytes w h 0 0)) level.Refused (level.At 7))
 
 -- ---- points
 
@@ -96,7 +101,7 @@ cameraOf baseline = record { fx = one; fy = one; cx = one; cy = one; baseline = 
 -- what is given back of a site: 0 where it is accepted
 abbrev siteNumber : ℤ → ℤ → ℤ → ℤ → ℕ → ℤ → ℕ
 siteNumber left right top bottom cell floor =
-    numberBack (shapeGiven (volume.shapeOf (record { left = left; right = right; top = top; bottom = bottom; cell = cell; floor = floor })))
+    numberBack (shapeGiven (volume.gridShape (record { left = left; right = right; top = top; bottom = bottom; cell = cell; floor = floor })))
 
 -- of a square that is one cell of that side
 abbrev cellNumber : ℕ → ℕ
@@ -163,12 +168,12 @@ pub record LimitsHeld : Type 0 where
   pub penalties-1 : map (λ p. refusal (matchOf 3 3 (pos 0) (pos 1) 3 p one)) penalties ≡ 10 ∷ 0 ∷ 0 ∷ 0 ∷ 10 ∷ 10 ∷ 10 ∷ []
   pub penalties-2 : map (λ p. refusal (matchOf 3 3 (pos 0) (pos 1) 3 one p)) penalties ≡ 10 ∷ 0 ∷ 0 ∷ 0 ∷ 10 ∷ 10 ∷ 10 ∷ []
   -- the output: w·h cells of a map, V of a raw volume
-  pub outputs : map (λ n. refusal (lending Map true n 120 105)) (14 ∷ 15 ∷ 16 ∷ []) ≡ 11 ∷ 0 ∷ 11 ∷ []
-  pub volumes : map (λ n. refusal (lending Volume false n 120 0)) (29 ∷ 30 ∷ 31 ∷ []) ≡ 11 ∷ 0 ∷ 11 ∷ []
+  pub outputs : map (λ n. refusal (lending Map SemiGlobal n 120 105)) (14 ∷ 15 ∷ 16 ∷ []) ≡ 11 ∷ 0 ∷ 11 ∷ []
+  pub volumes : map (λ n. refusal (lending Volume Block n 120 0)) (29 ∷ 30 ∷ 31 ∷ []) ≡ 11 ∷ 0 ∷ 11 ∷ []
   -- the whole-number room: 5(w+1)(h+1); the float room: V + w·h in block mode, 3V + w·h in semi-global mode
-  pub whole-rooms : map (λ n. refusal (lending Map true 15 n 105)) (119 ∷ 120 ∷ 121 ∷ []) ≡ 12 ∷ 0 ∷ 0 ∷ []
-  pub block-rooms : map (λ n. refusal (lending Map false 15 120 n)) (44 ∷ 45 ∷ 46 ∷ []) ≡ 12 ∷ 0 ∷ 0 ∷ []
-  pub semi-rooms : map (λ n. refusal (lending Map true 15 120 n)) (104 ∷ 105 ∷ 106 ∷ []) ≡ 12 ∷ 0 ∷ 0 ∷ []
+  pub whole-rooms : map (λ n. refusal (lending Map SemiGlobal 15 n 105)) (119 ∷ 120 ∷ 121 ∷ []) ≡ 12 ∷ 0 ∷ 0 ∷ []
+  pub block-rooms : map (λ n. refusal (lending Map Block 15 120 n)) (44 ∷ 45 ∷ 46 ∷ []) ≡ 12 ∷ 0 ∷ 0 ∷ []
+  pub semi-rooms : map (λ n. refusal (lending Map SemiGlobal 15 120 n)) (104 ∷ 105 ∷ 106 ∷ []) ≡ 12 ∷ 0 ∷ 0 ∷ []
   -- a picture that is read at a pixel and between pixels: the test of its byte count, width and height, and then the first pixel
   pub picture-widths : map (λ w. firstPixel (w * 2048) w 2048) (0 ∷ 1 ∷ 2048 ∷ 2049 ∷ []) ≡ refused 1 ∷ is 7 ∷ is 7 ∷ refused 1 ∷ []
   pub picture-heights : map (λ h. firstPixel (2048 * h) 2048 h) (0 ∷ 1 ∷ 2048 ∷ 2049 ∷ []) ≡ refused 1 ∷ is 7 ∷ is 7 ∷ refused 1 ∷ []
@@ -184,9 +189,9 @@ pub record LimitsHeld : Type 0 where
   pub records : map (λ m. freshRefusal 2048 2048 4194304 m) (2047 ∷ 2048 ∷ 2049 ∷ []) ≡ 28 ∷ 0 ∷ 28 ∷ []
   pub edits : map (λ x. editRefusal 2048 2048 4194304 2048 (record { x = x; y = 2047; value = Mark })) (2047 ∷ 2048 ∷ []) ≡ 0 ∷ 26 ∷ []
   -- points: a baseline of 1e-12, and the next f64; a list of no record and of one for one point
-  pub baselines : map (λ b. filledGiven (answerOf 1 1 (one ∷ []) (cameraOf b) 1)) (ofBits binary64 0x3d719799812dea11 ∷ ofBits binary64 0x3d719799812dea12 ∷ [])
+  pub baselines : map (λ b. filledGiven (filledFor 1 1 (one ∷ []) (cameraOf b) 1)) (ofBits binary64 0x3d719799812dea11 ∷ ofBits binary64 0x3d719799812dea12 ∷ [])
       ≡ refused 22 ∷ is 1 ∷ []
-  pub lists : map (λ m. filledGiven (answerOf 1 1 (one ∷ []) (cameraOf one) m)) (0 ∷ 1 ∷ []) ≡ refused 24 ∷ is 1 ∷ []
+  pub lists : map (λ m. filledGiven (filledFor 1 1 (one ∷ []) (cameraOf one) m)) (0 ∷ 1 ∷ []) ≡ refused 24 ∷ is 1 ∷ []
   -- a sheet's cells in kind 0: -8,193, -8,192, 8,192 and 8,193, written; and the number of 8,192 and the next, read
   pub whole-cells : map wholeCell (fin true 8193 (pos 0) ∷ fin true 1 (pos 13) ∷ fin false 1 (pos 13) ∷ fin false 8193 (pos 0) ∷ []) ≡ refused 32 ∷ is 7 ∷ is 7 ∷ refused 32 ∷ []
   pub whole-read : readSheet (1 ∷ 0 ∷ 1 ∷ 1 ∷ 0x81 ∷ 0x80 ∷ 0x01 ∷ []) ≡ is (record { kind = Whole; width = 1; height = 1; cells = fin false 1 (pos 13) ∷ [] })

@@ -8,10 +8,12 @@ use lib.ListN.{replicate}
 use lib.Ieee.{Float, nan, inf}
 use Rattle.options.specs.declared.BlockMatchOptions.{BlockMatchOptions}
 use Rattle.options.specs.Options.{defaultOptions}
-use Rattle.refusals.specs.declared.Call.{Call}
-use Rattle.lists.specs.Steps.{Or, is, refused}
+use Rattle.calls.specs.declared.Call.{Call}
+use Rattle.refusals.specs.Steps.{Or, is, refused}
 use Rattle.vendor.specs.Verdict.{checkOf, verdictOf}
-use Rattle.vendor.specs.Outcome.{vendorCall, vendorRefusal, answerOf}
+use Rattle.refusals.specs.Outcome.{answerFor}
+use Rattle.vendor.specs.declared.Verdict.the-variants.{Yes, Refused}
+use Rattle.vendor.specs.Outcome.{vendorCall, vendorRefusal}
 use Rattle.vendor.specs.Given.{YesNo, yes, no, verdictGiven}
 use Rattle.promises.specs.Floats.{plusZero, minusZero, half, one, minusOne, two}
 
@@ -26,7 +28,7 @@ searching first count block least = record {
   «lr_consistency» = defaultOptions .«lr_consistency»;
   «lr_max_diff» = defaultOptions .«lr_max_diff»;
   subpixel = defaultOptions .subpixel;
-  «semi_global» = defaultOptions .«semi_global»;
+  mode = defaultOptions .mode;
   «sgm_p1» = defaultOptions .«sgm_p1»;
   «sgm_p2» = defaultOptions .«sgm_p2»;
 }
@@ -37,7 +39,7 @@ asked w h right first count block room = vendorCall (replicate 9 0) w h right 3 
 
 -- what is given back of a call that is refused, for a map of n cells, so wide and so high: no level and no cell is looked at
 abbrev pub refusing : Call → ℕ → ℕ → ℕ → Or YesNo
-refusing q w h n = verdictGiven (answerOf (vendorRefusal q w h n) (q .«left_w») (q .«left_h») defaultOptions [] [] [])
+refusing q w h n = verdictGiven (answerFor (vendorRefusal q w h n) Refused Yes)
 
 -- three rows alike
 abbrev pub thrice : {A : Type 0} → List A → List A

@@ -1,14 +1,16 @@
 -- A call for each number that can be answered. Definitions only.
 use Prim.Native.Nat.{ℕ}
 use mathlib.Core.Path.{_≡_}
-use mathlib.Core.Bool.{Bool, true, false}
+use mathlib.Core.Bool.{true, false}
 use mathlib.Core.List.{List, [], _∷_, map}
 use mathlib.Core.Option.{none, some}
 use lib.IntN.{ℤ, pos, negsuc}
 use lib.Ieee.{Float, nan, inf, fin}
-use Rattle.refusals.specs.declared.Call.{Call}
-use Rattle.refusals.specs.declared.Output.the-variants.{Map}
-use Rattle.refusals.specs.Refusals.{refusal}
+use Rattle.options.specs.declared.Mode.{Mode}
+use Rattle.options.specs.declared.Mode.the-variants.{SemiGlobal}
+use Rattle.calls.specs.declared.Call.{Call}
+use Rattle.calls.specs.declared.Output.the-variants.{Map}
+use Rattle.calls.specs.Refusals.{refusal}
 use Rattle.pictures.specs.Picture.{pixelOf}
 use Rattle.pictures.specs.Bilinear.{sampleOf}
 use Rattle.pictures.specs.Given.{levelGiven, sampleGiven}
@@ -17,20 +19,20 @@ use Rattle.maps.specs.Map.{gotAt, validAt, validCount, validRange, coverOf}
 use Rattle.maps.specs.Given.{gotGiven, validityGiven, numberGiven, extentGiven}
 use Rattle.points.specs.declared.Intrinsics.{Intrinsics}
 use Rattle.points.specs.Point.{pointOf}
-use Rattle.points.specs.Records.{answerOf}
+use Rattle.points.specs.Records.{filledFor}
 use Rattle.points.specs.Given.{pointGiven, filledGiven}
 use Rattle.sheets.specs.declared.code.Kind.the-variants.{Whole}
-use Rattle.lists.specs.Steps.{Or, is, refused}
+use Rattle.refusals.specs.Steps.{Or, is, refused}
 use Rattle.sheets.specs.Sheet.{sheetOf, readSheet}
-use Rattle.lists.specs.Writes.{roomFor, byteCount}
-use Rattle.lists.specs.Given.{writtenGiven}
+use Rattle.refusals.specs.Writes.{roomFor, byteCount}
+use Rattle.refusals.specs.Given.{writtenGiven}
 use Rattle.sheets.specs.Outcome.{cellsFor, sizeSaid}
 use Rattle.sheets.specs.Given.{SheetIs, saidGiven}
 use Rattle.promises.specs.Floats.{plusZero, minusZero, one}
 
 -- a match of a left picture w wide and 3 high with so many bytes and a right one likewise, the first disparity, count, block side and
 -- mode, a penalty, and the lengths of the output and of the whole-number room; penalty p2 is 1, and the float room has 105 cells
-abbrev matchOf : ℕ → ℕ → ℕ → ℕ → ℤ → ℤ → ℕ → Bool → Float → ℕ → ℕ → Call
+abbrev matchOf : ℕ → ℕ → ℕ → ℕ → ℤ → ℤ → ℕ → Mode → Float → ℕ → ℕ → Call
 matchOf w bytes w′ bytes′ first count block mode p1 out whole = record {
   output = Map;
   «left_w» = w;
@@ -42,7 +44,7 @@ matchOf w bytes w′ bytes′ first count block mode p1 out whole = record {
   first = first;
   count = count;
   block = block;
-  «semi_global» = mode;
+  mode = mode;
   p1 = p1;
   p2 = one;
   «out_len» = out;
@@ -53,19 +55,19 @@ matchOf w bytes w′ bytes′ first count block mode p1 out whole = record {
 -- one that is accepted, and then one for each of the numbers 1 to 12, which differs from the first in what its row names
 abbrev pub calls : List Call
 calls =
-    matchOf 5 15 5 15 (pos 0) (pos 2) 3 true one 15 120
-    ∷ matchOf 0 0 5 15 (pos 0) (pos 2) 3 true one 15 120
-    ∷ matchOf 5 14 5 15 (pos 0) (pos 2) 3 true one 15 120
-    ∷ matchOf 5 15 4 12 (pos 0) (pos 2) 3 true one 15 120
-    ∷ matchOf 5 15 5 15 (pos 0) (pos 2) 2 true one 15 120
-    ∷ matchOf 5 15 5 15 (pos 0) (pos 2) 33 true one 15 120
-    ∷ matchOf 5 15 5 15 (pos 0) (negsuc 0) 3 true one 15 120
-    ∷ matchOf 5 15 5 15 (pos 0) (pos 257) 3 true one 15 120
-    ∷ matchOf 5 15 5 15 (pos 0) (pos 2) 5 true one 15 120
-    ∷ matchOf 5 15 5 15 (negsuc 4096) (pos 2) 3 true one 15 120
-    ∷ matchOf 5 15 5 15 (pos 0) (pos 2) 3 true nan 15 120
-    ∷ matchOf 5 15 5 15 (pos 0) (pos 2) 3 true one 14 120
-    ∷ matchOf 5 15 5 15 (pos 0) (pos 2) 3 true one 15 119
+    matchOf 5 15 5 15 (pos 0) (pos 2) 3 SemiGlobal one 15 120
+    ∷ matchOf 0 0 5 15 (pos 0) (pos 2) 3 SemiGlobal one 15 120
+    ∷ matchOf 5 14 5 15 (pos 0) (pos 2) 3 SemiGlobal one 15 120
+    ∷ matchOf 5 15 4 12 (pos 0) (pos 2) 3 SemiGlobal one 15 120
+    ∷ matchOf 5 15 5 15 (pos 0) (pos 2) 2 SemiGlobal one 15 120
+    ∷ matchOf 5 15 5 15 (pos 0) (pos 2) 33 SemiGlobal one 15 120
+    ∷ matchOf 5 15 5 15 (pos 0) (negsuc 0) 3 SemiGlobal one 15 120
+    ∷ matchOf 5 15 5 15 (pos 0) (pos 257) 3 SemiGlobal one 15 120
+    ∷ matchOf 5 15 5 15 (pos 0) (pos 2) 5 SemiGlobal one 15 120
+    ∷ matchOf 5 15 5 15 (negsuc 4096) (pos 2) 3 SemiGlobal one 15 120
+    ∷ matchOf 5 15 5 15 (pos 0) (pos 2) 3 SemiGlobal nan 15 120
+    ∷ matchOf 5 15 5 15 (pos 0) (pos 2) 3 SemiGlobal one 14 120
+    ∷ matchOf 5 15 5 15 (pos 0) (pos 2) 3 SemiGlobal one 15 119
     ∷ []
 
 -- a camera with this fx and baseline; fy 1, cx and cy 0
@@ -112,11 +114,11 @@ pub record Reached : Type 0 where
   pub point-none : pointGiven (pointOf (cameraOf one one) one one plusZero) ≡ none
   pub point-is : pointGiven (pointOf (cameraOf one one) one one one) ≡ some (record { x = one; y = one; z = one })
   -- the points of one cell: fx a NaN, a baseline of 0, a cell too many, and a list without room
-  pub points-21 : filledGiven (answerOf 1 1 (one ∷ []) (cameraOf nan one) 1) ≡ refused 21
-  pub points-22 : filledGiven (answerOf 1 1 (one ∷ []) (cameraOf one plusZero) 1) ≡ refused 22
-  pub points-23 : filledGiven (answerOf 1 1 (one ∷ one ∷ []) (cameraOf one one) 1) ≡ refused 23
-  pub points-24 : filledGiven (answerOf 1 1 (one ∷ []) (cameraOf one one) 0) ≡ refused 24
-  pub points-is : filledGiven (answerOf 1 1 (one ∷ []) (cameraOf one one) 1) ≡ is 1
+  pub points-21 : filledGiven (filledFor 1 1 (one ∷ []) (cameraOf nan one) 1) ≡ refused 21
+  pub points-22 : filledGiven (filledFor 1 1 (one ∷ []) (cameraOf one plusZero) 1) ≡ refused 22
+  pub points-23 : filledGiven (filledFor 1 1 (one ∷ one ∷ []) (cameraOf one one) 1) ≡ refused 23
+  pub points-24 : filledGiven (filledFor 1 1 (one ∷ []) (cameraOf one one) 0) ≡ refused 24
+  pub points-is : filledGiven (filledFor 1 1 (one ∷ []) (cameraOf one one) 1) ≡ is 1
   -- the sheet of one cell, 1: a cell too many, a kind 2, a cell that is infinite, minus zero in kind 0, and an output of 4 bytes
   pub write-23 : writtenGiven (byteCount (sheetOf 0 1 1 (one ∷ one ∷ []))) ≡ refused 23
   pub write-35 : writtenGiven (byteCount (sheetOf 2 1 1 (one ∷ []))) ≡ refused 35

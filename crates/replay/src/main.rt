@@ -1,11 +1,11 @@
 // Replays a stored sample of the Rust's answers (data/README.md) and prints how many maps and cells were compared, and how many
 // cells differ. A map that is refused, or a file that is cut, counts as a difference.
 ghost use Prim.Native.Nat.{_+_, _*_, _≤_, _<_};
-ghost use mathlib.Core.Path.{_≡_};
 ghost use lib.ListN.{length};
 use libc::STDOUT_FILENO;
 use matching::match_block;
 use options::BlockMatchOptions;
+use options::Mode;
 
 // The bytes of a case before its pictures.
 const HEAD: usize = 28;
@@ -72,7 +72,7 @@ fn options_at(bytes: &[u8], at: usize) -> BlockMatchOptions
         lr_consistency: flags / 2 % 2 == 1,
         lr_max_diff: number(bytes, at + 16),
         subpixel: flags / 4 % 2 == 1,
-        semi_global: flags % 2 == 1,
+        mode: Mode::of_flag(flags % 2 == 1),
         sgm_p1: number(bytes, at + 20),
         sgm_p2: number(bytes, at + 24),
     }

@@ -1,16 +1,21 @@
 -- What a call that is not refused has: a map of a good size, an index of its height, and for an edit a cell inside. Assumes nothing.
-use mathlib.Core.Path.{_≡_, refl}
+use mathlib.Core.Path.{_≡_}
 use Prim.Native.Nat.{ℕ, _+_, _*_, _≤_, _<_}
 use native.Mathlib.Omega.{arith}
-use mathlib.Core.Bool.{Bool, true, false, cond}
-use borrow.Author.Tests.{eqb-true, ltb-true}
+use mathlib.Core.Bool.{true}
+use borrow.Author.Tests.{eqb-true, ltb-true, not-false}
+use mathlib.Core.List.{List}
+use lib.ListN.{length, length-set}
 use lib.Dec.{eqb, ltb}
+use lib.Ieee.{Float}
 use Rattle.lists.proofs.Tests.{and-both}
 use Rattle.lists.proofs.Rows.{pixel-in, row-in}
+use Rattle.refusals.proofs.Answering.{none-of}
 use Rattle.maps.specs.Map.{goodSize, inside}
 use Rattle.maps.proofs.Facts.{Good, good}
 use Rattle.rows.specs.declared.Edit.{Edit}
-use Rattle.rows.specs.Index.{freshRefusal, editRefusal}
+use Rattle.rows.specs.Index.{freshRows, freshRefusal, editRows, editRefusal, edited}
+use Rattle.rows.proofs.Refusing.{fresh-numbered, edit-numbered}
 
 -- an index of m records fits a map of n cells
 pub record Fits (w h n m : ℕ) : Type 0 where
@@ -25,27 +30,25 @@ pub record EditFits (w h n m : ℕ) (e : Edit) : Type 0 where
   pub down : e .y < h
 
 module _ (w h n m : ℕ) where
+  fits : goodSize w h n ≡ true → eqb m h ≡ true → Fits w h n m
+  fits size long = record { tested = size; size = good w h n size; long = eqb-true m h long }
+
   pub fresh-fits : freshRefusal w h n m ≡ 0 → Fits w h n m
-  unfolding freshRefusal
-  fresh-fits = go (goodSize w h n) (eqb m h) refl refl
-    where
-      go : (s l : Bool) → goodSize w h n ≡ s → eqb m h ≡ l → cond s (cond {A = ℕ} l 0 28) 23 ≡ 0 → Fits w h n m
-      go true true es el z = record { tested = es; size = good w h n es; long = eqb-true m h el }
-      go true false es el z = absurd (omega (arith, z))
-      go false l es el z = absurd (omega (arith, z))
+  fresh-fits none =
+      let tests = none-of (freshRows w h n m) (fresh-numbered w h n m) none in
+      fits (not-false (goodSize w h n) (tests .0)) (not-false (eqb m h) (tests .1 .0))
 
   module _ (e : Edit) where
     pub edit-fits : editRefusal w h n m e ≡ 0 → EditFits w h n m e
-    unfolding editRefusal inside
-    edit-fits = go (goodSize w h n) (inside w h (e .x) (e .y)) (eqb m h) refl refl refl
-      where
-        go : (s i l : Bool) → goodSize w h n ≡ s → inside w h (e .x) (e .y) ≡ i → eqb m h ≡ l → cond s (cond i (cond {A = ℕ} l 0 28) 26) 23 ≡ 0 → EditFits w h n m e
-        go true true true es ei el z =
-            let two = and-both (ltb (e .x) w) (ltb (e .y) h) ei in
-            record { both = record { tested = es; size = good w h n es; long = eqb-true m h el }; across = ltb-true (e .x) w (two .0); down = ltb-true (e .y) h (two .1) }
-        go true true false es ei el z = absurd (omega (arith, z))
-        go true false l es ei el z = absurd (omega (arith, z))
-        go false i l es ei el z = absurd (omega (arith, z))
+    unfolding inside
+    edit-fits none =
+        let tests = none-of (editRows w h n m e) (edit-numbered w h n m e) none in
+        let within = and-both (ltb (e .x) w) (ltb (e .y) h) (not-false (inside w h (e .x) (e .y)) (tests .1 .0)) in
+        record {
+          both = fits (not-false (goodSize w h n) (tests .0)) (not-false (eqb m h) (tests .1 .1 .0));
+          across = ltb-true (e .x) w (within .0);
+          down = ltb-true (e .y) h (within .1);
+        }
 
     -- the cell of an edit that fits, and its row, are among the map's
     pub cell-there : EditFits w h n m e → e .y * w + e .x < n
@@ -53,3 +56,7 @@ module _ (w h n m : ℕ) where
 
     pub row-there : EditFits w h n m e → e .y * w + w ≤ n
     row-there f = row-in (e .y) h w n (f .down) (omega (arith, f .both .size .long))
+
+-- an edit takes no cell away
+pub still-there : (w : ℕ) (cells cells′ : List Float) (e : Edit) (k : ℕ) → cells′ ≡ edited w cells e → k ≤ length cells → k ≤ length cells′
+still-there w cells cells′ e k stored there = rw (stored, length-set) there

@@ -14,6 +14,7 @@ use Rattle.lists.specs.Lists.{listOf}
 use Rattle.lists.specs.Rows.{rowOf}
 use Rattle.lists.proofs.Lists.{listOf-same}
 use Rattle.lists.proofs.Rows.{row-next, row-at, row-long, row-set}
+use Rattle.maps.specs.declared.Number.{Number}
 use Rattle.maps.specs.declared.Number.the-variants as number
 use Rattle.maps.specs.declared.Range.{Range}
 use Rattle.maps.specs.declared.Range.the-variants as range
@@ -22,11 +23,12 @@ use Rattle.maps.specs.Map.{goodSize, valids, validCount, lesserOf, greaterOf, w
 use Rattle.maps.specs.Extremes.{Finds}
 use Rattle.maps.proofs.Facts.{good, count-is}
 use Rattle.maps.proofs.Extremes.{range-found}
+use Rattle.rows.specs.declared.RowRecord.{RowRecord}
 use Rattle.rows.specs.declared.Edit.{Edit}
-use Rattle.rows.specs.Index.{recordIn, rangeIn, recordOf, freshIndex, editRefusal, edited}
-use Rattle.rows.specs.Runs.{Indexed, fresh, run, total, counted}
-use Rattle.rows.proofs.Accepted.{edit-fits, row-there}
-use Rattle.rows.proofs.Kept.{run-fresh, run-cells-length}
+use Rattle.rows.specs.Index.{recordIn, rangeIn, rowRecordOf, freshIndex, FreshOutcome, editRefusal, edited}
+use Rattle.rows.specs.Runs.{Indexed, fresh, run, Calls, total, counted}
+use Rattle.rows.proofs.Accepted.{fresh-fits, edit-fits, row-there}
+use Rattle.rows.proofs.Kept.{run-fresh, run-cells-length, calls-from-fresh}
 
 -- ---- the counts of an index, and the map's
 
@@ -47,7 +49,7 @@ counts-add w zero [] long = refl
 counts-add w zero (c ∷ cells) long = absurd (omega (arith, mul-zero w))
 counts-add w (suc h) cells long =
     let first : rowOf w cells 0 ≡ take w cells = rw zero-mul in
-    let rows = listOf-same h _ _ (λ y _. ap recordOf (sym (row-next w cells y))) in
+    let rows = listOf-same h _ _ (λ y _. ap rowRecordOf (sym (row-next w cells y))) in
     let rest = counts-add w h (drop w cells) (rw length-drop (omega (arith, mul-suc w h))) in
     ap₂ (λ a b. a + b) (count-in _ (rangeOf (rowOf w cells 0)) ∙ ap valids first) (ap total rows ∙ rest)
     ∙ sym (valids-append (take w cells) (drop w cells))
@@ -55,7 +57,7 @@ counts-add w (suc h) cells long =
 
 -- so the map's count of valid cells is theirs
 pub map-count : (w h : ℕ) (cells : List Float) → goodSize w h (length cells) ≡ true → validCount w h cells ≡ number.Is (total (freshIndex w h cells))
-map-count w h cells size = sym (count-is w h cells true (sym size) refl) ∙ ap number.Is (sym (counts-add w h cells (good w h (length cells) size .long)))
+map-count w h cells size = count-is w h cells size ∙ ap number.Is (sym (counts-add w h cells (good w h (length cells) size .long)))
 
 -- THEOREM: and so it is after any run of edits from a fresh index
 pub run-count : (w h : ℕ) (cells : List Float) (es : List Edit) → goodSize w h (length cells) ≡ true
@@ -64,6 +66,13 @@ run-count w h cells es size =
     let end = run w h (fresh w h cells) es in
     map-count w h (end .cells) (rw (run-cells-length w h (fresh w h cells) es) size)
     ∙ ap (λ (s : Indexed). number.Is (total (s .index))) (sym (run-fresh w h cells es))
+
+-- THEOREM: so after a fresh index that is accepted, and any run of calls of edits, the counts add up to what `count_valid` answers
+pub run-count-call : {n w h : ℕ} {cells : List Float} {index index′ : List RowRecord} {es : List Edit} {end : Indexed} {answer : Number} → FreshOutcome n w h cells index index′ → n ≡ 0
+    → Calls w h (record { cells = cells; index = index′ }) es end → answer ≡ validCount w h (end .cells) → answer ≡ number.Is (total (end .index))
+run-count-call {w = w} {h = h} {cells = cells} {es = es} made none calls count =
+    let size = fresh-fits w h _ _ (sym (made .answer) ∙ none) .tested in
+    count ∙ subst (λ s. validCount w h (s .cells) ≡ number.Is (total (s .index))) (sym (calls-from-fresh w h made none calls)) (run-count w h cells es size)
 
 -- ---- one cell changed
 
@@ -108,7 +117,7 @@ widens-agrees [] n r a = rw add-zero a
 widens-agrees (c ∷ cells) n r a = rw (← add-assoc n (counted c) (valids cells)) (widens-agrees cells (n + counted c) (widen r c) (widen-agrees n r c a))
 
 -- THEOREM: the range of a row's record is the row's
-pub range-kept : (row : List Float) → rangeIn (recordOf row) ≡ rangeOf row
+pub range-kept : (row : List Float) → rangeIn (rowRecordOf row) ≡ rangeOf row
 range-kept row = told (valids row) (rangeOf row) (rw zero-add at (widens-agrees row 0 range.None refl))
   where
     told : (n : ℕ) (r : Range) → Agrees n r → rangeIn (recordIn n r) ≡ r
@@ -116,5 +125,5 @@ range-kept row = told (valids row) (rangeOf row) (rw zero-add at (widens-agrees 
     told n (range.Span lo hi) some = rw (ne-eqb n 0 (λ z. omega arith))
 
 -- THEOREM: so what a row's record holds is the least and the greatest of the row's valid cells, each the leftmost of its equals
-pub record-finds : (row : List Float) → Finds row (rangeIn (recordOf row))
+pub record-finds : (row : List Float) → Finds row (rangeIn (rowRecordOf row))
 record-finds row = subst (Finds row) (sym (range-kept row)) (range-found row)

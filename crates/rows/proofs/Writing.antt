@@ -13,29 +13,37 @@ use Rattle.lists.specs.Lists.{listOf}
 use Rattle.lists.specs.Rows.{rowOf}
 use Rattle.lists.proofs.Lists.{listOf-length, filled-next, filled-end}
 use Rattle.lists.proofs.Rows.{row-in}
+use Rattle.refusals.specs.Outcome.{after}
 use Rattle.rows.specs.declared.RowRecord.{RowRecord}
-use Rattle.rows.specs.Index.{recordOf, freshIndex, after, freshRefusal, freshAfter}
+use Rattle.rows.specs.Index.{rowRecordOf, freshIndex, freshRefusal}
 use Rattle.rows.proofs.Accepted.{fresh-fits}
 
 module _ (w h : ℕ) (cells : List Float) (index : List RowRecord) where
   abbrev record-at : ℕ → RowRecord
-  record-at y = recordOf (rowOf w cells y)
+  record-at y = rowRecordOf (rowOf w cells y)
 
   -- y records are written
   abbrev pub upto : ℕ → List RowRecord
   upto y = listOf y record-at ++ drop y index
 
+  -- what refuses the index, and what it is to be
+  abbrev pub refusal : ℕ
+  refusal = freshRefusal w h (length cells) (length index)
+
+  abbrev pub made : List RowRecord
+  made = after refusal (freshIndex w h cells) index
+
   -- there is room for the records, each of their rows is there, and with all of them the index is what it is to be
   pub record Ready (rows : ℕ) : Type 0 where
     pub fits : rows ≤ length index
     pub there : (y : ℕ) → y < rows → y * w + w ≤ length cells
-    pub whole : upto rows ≡ freshAfter w h cells index
+    pub whole : upto rows ≡ made
 
-  pub ready : (rows : ℕ) → rows ≡ after (freshRefusal w h (length cells) (length index)) h 0 → Ready rows
-  unfolding freshAfter freshIndex listOf
-  ready rows e = rw e (go (freshRefusal w h (length cells) (length index)) refl)
+  pub ready : (rows : ℕ) → rows ≡ after refusal h 0 → Ready rows
+  unfolding freshIndex listOf
+  ready rows e = rw e (go refusal refl)
     where
-      go : (n : ℕ) → freshRefusal w h (length cells) (length index) ≡ n → Ready (after n h 0)
+      go : (n : ℕ) → refusal ≡ n → Ready (after n h 0)
       go zero z =
           let f = fresh-fits w h (length cells) (length index) z in
           record {
@@ -64,5 +72,5 @@ module _ (w h : ℕ) (cells : List Float) (index : List RowRecord) where
     one-more v l e = filled-next (f .y) record-at index v (omega (arith, r .fits)) e
 
     -- the index at the end
-    pub ended : rows ≤ f .y → upto (f .y) ≡ freshAfter w h cells index
+    pub ended : rows ≤ f .y → upto (f .y) ≡ made
     ended over = ap upto (le-antisymm (f .most) over) ∙ r .whole

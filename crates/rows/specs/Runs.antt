@@ -7,7 +7,7 @@ use lib.Ieee.{Float}
 use lib.Ieee.Scale.{finite}
 use Rattle.rows.specs.declared.RowRecord.{RowRecord}
 use Rattle.rows.specs.declared.Edit.{Edit}
-use Rattle.rows.specs.Index.{freshIndex, cellsAfter, indexAfter}
+use Rattle.rows.specs.Index.{freshIndex, cellsAfter, indexAfter, EditOutcome}
 
 -- a map's cells, and the records beside them
 pub record Indexed : Type 0 where
@@ -26,6 +26,11 @@ edit w h s e = record { cells = cellsAfter w h (s .cells) (length (s .index)) e;
 unfoldable pub run : ℕ → ℕ → Indexed → List Edit → Indexed
 run w h s [] = s
 run w h s (e ∷ es) = run w h (edit w h s e) es
+
+-- a run of calls of `edit_cell`, refused or not: what one leaves of the map and the index, the next is lent
+pub data Calls (w h : ℕ) : Indexed → List Edit → Indexed → Type 0 where
+  none-more : {s : Indexed} → Calls w h s [] s
+  called : {n : ℕ} {s t end : Indexed} {e : Edit} {es : List Edit} → EditOutcome n w h e (s .cells) (t .cells) (s .index) (t .index) → Calls w h t es end → Calls w h s (e ∷ es) end
 
 -- what a cell adds to its row's count
 abbrev pub counted : Float → ℕ

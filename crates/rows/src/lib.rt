@@ -7,8 +7,9 @@ ghost use mathlib.Core.Path.{_≡_};
 ghost use Prim.Native.Nat.{_+_, _*_, _<_, _≤_};
 ghost use lib.ListN.{length};
 ghost use Rattle.lists.specs.Rows.{rowOf};
-ghost use Rattle.rows.specs.Index.{recordIn, rangeIn, recordOf, after, freshRefusal, FreshDone, editRefusal, edited, cellsAfter, EditDone};
-ghost use Rattle.rows.specs.Answers.{noRecord, rowAfter};
+ghost use Rattle.refusals.specs.Outcome.{after};
+ghost use Rattle.rows.specs.Index.{recordIn, rangeIn, rowRecordOf, freshRefusal, FreshOutcome, editRefusal, edited, cellsAfter, EditOutcome};
+ghost use Rattle.rows.specs.Inner.{noRecord, rowAfter};
 
 // What the index holds of one row: how many of its cells are valid, and the least and the greatest of those. Where none is valid the
 // two are the mark, as a cell of the map is.
@@ -101,7 +102,7 @@ impl Left {
 // The record of row y of rows of `width` cells.
 fn row_record(width: usize, cells: &[f32], y: usize) -> RowRecord
     requires { ⌜ y * width + width ≤ length (now cells) ⌝ }
-    ensures { λ r. ⌜ r ≡ recordOf (rowOf width (now (cells .entry)) y) ⌝ }
+    ensures { λ r. ⌜ r ≡ rowRecordOf (rowOf width (now (cells .entry)) y) ⌝ }
 {
     let start = y * width;
     let row = &cells[start..start + width];
@@ -110,20 +111,26 @@ fn row_record(width: usize, cells: &[f32], y: usize) -> RowRecord
     RowRecord::new(count, range)
 }
 
-// What `fresh_index` is to do with an index of `records` records beside a map of `cells` cells.
+// What a fresh index of `records` records beside a map of `cells` cells is refused with, 0 for none.
+fn fresh_refusal(records: usize, width: usize, height: usize, cells: usize) -> u32
+    ensures { λ n. ⌜ n ≡ freshRefusal width height cells records ⌝ }
+{
+    let refused = maps::size_refusal(width, height, cells);
+    if refused != 0 {
+        return refused as u32;
+    }
+    if records == height { 0 } else { 28 }
+}
+
+// What `fresh_index` is to do with such an index.
 fn fresh_plan(records: usize, width: usize, height: usize, cells: usize) -> Plan
     ensures { λ r. ⌜ (r .answer ≡ freshRefusal width height cells records) × (r .rows ≡ after (freshRefusal width height cells records) height 0) ⌝ }
 {
-    if !maps::size_good(width, height, cells) {
+    let refused = fresh_refusal(records, width, height, cells);
+    if refused != 0 {
         return Plan {
             rows: 0,
-            answer: 23,
-        };
-    }
-    if records != height {
-        return Plan {
-            rows: 0,
-            answer: 28,
+            answer: refused,
         };
     }
     Plan {
@@ -134,7 +141,7 @@ fn fresh_plan(records: usize, width: usize, height: usize, cells: usize) -> Plan
 
 // Works the index out afresh from the cells. 0, or the number of the refusal, which leaves the index as it was.
 pub fn fresh_index(index: &mut [RowRecord], width: usize, height: usize, cells: &[f32]) -> u32
-    ensures { λ n. ⌜ FreshDone n width height (now (cells .entry)) (now (index .entry)) (now (index .exit)) ⌝ }
+    ensures { λ n. ⌜ FreshOutcome n width height (now (cells .entry)) (now (index .entry)) (now (index .exit)) ⌝ }
 {
     let plan = fresh_plan(index.len(), width, height, cells.len());
     let mut y: usize = 0;
@@ -147,22 +154,14 @@ pub fn fresh_index(index: &mut [RowRecord], width: usize, height: usize, cells: 
 }
 
 // What an edit beside an index of `records` records is refused with, 0 for none.
-fn edit_refused(records: usize, width: usize, height: usize, cells: usize, edit: Edit) -> u32
+fn edit_refusal(records: usize, width: usize, height: usize, cells: usize, edit: Edit) -> u32
     ensures { λ n. ⌜ n ≡ editRefusal width height cells records edit ⌝ }
 {
-    if !maps::size_good(width, height, cells) {
-        return 23;
+    let refused = maps::pixel_refusal(width, height, cells, edit.x, edit.y);
+    if refused != 0 {
+        return refused as u32;
     }
-    if width <= edit.x {
-        return 26;
-    }
-    if height <= edit.y {
-        return 26;
-    }
-    if records != height {
-        return 28;
-    }
-    0
+    if records == height { 0 } else { 28 }
 }
 
 // Stores an edit's cell.
@@ -179,7 +178,7 @@ fn store_cell(width: usize, cells: &mut [f32], edit: Edit)
 fn edit_map(records: usize, width: usize, height: usize, cells: &mut [f32], edit: Edit) -> Left
     ensures { λ r. ⌜ (r .answer ≡ editRefusal width height (length (now (cells .entry))) records edit) × ((r .row ≡ after (editRefusal width height (length (now (cells .entry))) records edit) (edit .y) 0) × ((r .record ≡ rowAfter width height (now (cells .entry)) records edit) × (now (cells .exit) ≡ cellsAfter width height (now (cells .entry)) records edit))) ⌝ }
 {
-    let answer = edit_refused(records, width, height, cells.len(), edit);
+    let answer = edit_refusal(records, width, height, cells.len(), edit);
     if answer != 0 {
         return Left::nothing(answer);
     }
@@ -196,7 +195,7 @@ pub fn edit_cell(
     cells: &mut [f32],
     edit: Edit,
 ) -> u32
-    ensures { λ n. ⌜ EditDone n width height edit (now (cells .entry)) (now (cells .exit)) (now (index .entry)) (now (index .exit)) ⌝ }
+    ensures { λ n. ⌜ EditOutcome n width height edit (now (cells .entry)) (now (cells .exit)) (now (index .entry)) (now (index .exit)) ⌝ }
 {
     let left = edit_map(index.len(), width, height, cells, edit);
     if left.answer == 0 {

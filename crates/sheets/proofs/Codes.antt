@@ -17,10 +17,10 @@ use Rattle.sheets.specs.declared.code.Kind.{Kind}
 use Rattle.sheets.specs.declared.code.Kind.the-variants.{Whole, Exact}
 use Rattle.sheets.specs.declared.code.Known.the-variants as known
 use Rattle.sheets.specs.Limits.{isWholeCell}
-use Rattle.lists.specs.Steps.{Or, is, refused}
-use Rattle.sheets.specs.Code.{kindNumber, kindOf, folded, unfolded, isWhole, codeOf, isFinitePattern, cellOf}
-use Rattle.sheets.specs.Answers.{knownAs}
-use Rattle.lists.proofs.Stepwise.{not-refused, given-is}
+use Rattle.refusals.specs.Steps.{Or, is, refused}
+use Rattle.sheets.specs.Code.{kindNumber, kindOf, folded, unfolded, isWhole, codeOf, isFinitePattern, sheetCell}
+use Rattle.sheets.specs.Inner.{knownAs}
+use Rattle.refusals.proofs.Stepwise.{not-refused, given-is}
 
 -- ---- the kinds
 
@@ -140,16 +140,16 @@ code-exact (fin s m e) f = rw one-more
 
 -- ---- THEOREM: a cell's number gives the cell back, and a number's cell the number
 
-code-back-whole : (x : Float) → T (fits binary32 x) → isWhole x ≡ true → cellOf Whole (suc (folded (toSigned 31 x))) ≡ is x
-unfolding cellOf
+code-back-whole : (x : Float) → T (fits binary32 x) → isWhole x ≡ true → sheetCell Whole (suc (folded (toSigned 31 x))) ≡ is x
+unfolding sheetCell
 code-back-whole x p w = rw (fold-back (toSigned 31 x), whole-in x w, whole-float x p w)
 
-code-back-exact : (x : Float) → T (fits binary32 x) → finite x ≡ true → cellOf Exact (suc (toBits binary32 x)) ≡ is x
-unfolding cellOf
+code-back-exact : (x : Float) → T (fits binary32 x) → finite x ≡ true → sheetCell Exact (suc (toBits binary32 x)) ≡ is x
+unfolding sheetCell
 code-back-exact x p f = rw (ofBits-toBits binary32 x p, f, lt-ltb (toBits binary32 x) (2 ^ 32) (toBits-lt binary32 x p))
 
-pub code-back : (k : Kind) (x : Float) (n : ℕ) → T (fits binary32 x) → codeOf k x ≡ is n → cellOf k n ≡ is x
-unfolding codeOf cellOf
+pub code-back : (k : Kind) (x : Float) (n : ℕ) → T (fits binary32 x) → codeOf k x ≡ is n → sheetCell k n ≡ is x
+unfolding codeOf sheetCell
 code-back k nan n p e = let z : n ≡ 0 = cc in rw z
 code-back k (inf s) n p e = not-refused (sym e)
 code-back Whole (fin s m e') n p e =
@@ -159,8 +159,8 @@ code-back Exact (fin s m e') n p e =
     let z : n ≡ 1 + toBits binary32 (fin s m e') = cc in
     rw (z, one-more) (code-back-exact (fin s m e') p refl)
 
-pub cell-back : (k : Kind) (n : ℕ) (x : Float) → cellOf k n ≡ is x → codeOf k x ≡ is n
-unfolding cellOf
+pub cell-back : (k : Kind) (n : ℕ) (x : Float) → sheetCell k n ≡ is x → codeOf k x ≡ is n
+unfolding sheetCell
 cell-back k zero x e = let z : x ≡ nan = cc in rw z (unfold codeOf in refl)
 cell-back Whole (suc m) x e =
     let g = given-is (isWholeCell (unfolded m)) 37 (ofInt binary32 (unfolded m)) x e in
@@ -171,8 +171,8 @@ cell-back Exact (suc b) x e =
     let same = toBits-ofBits binary32 b (ltb-true b (2 ^ 32) (parts .0)) (finite-number (ofBits binary32 b) (parts .1)) in
     rw (← g .1) (code-exact (ofBits binary32 b) (parts .1) ∙ ap (λ (n : ℕ). is (suc n)) same)
 
-pub cell-fits : (k : Kind) (n : ℕ) (x : Float) → cellOf k n ≡ is x → T (fits binary32 x)
-unfolding cellOf
+pub cell-fits : (k : Kind) (n : ℕ) (x : Float) → sheetCell k n ≡ is x → T (fits binary32 x)
+unfolding sheetCell
 cell-fits k zero x e = let z : x ≡ nan = cc in rw z (nan-fits binary32)
 cell-fits Whole (suc m) x e = rw (← given-is (isWholeCell (unfolded m)) 37 (ofInt binary32 (unfolded m)) x e .1) (ofInt-fits binary32 (unfolded m))
 cell-fits Exact (suc b) x e = rw (← given-is (isFinitePattern b) 37 (ofBits binary32 b) x e .1) (ofBits-fits binary32 b)

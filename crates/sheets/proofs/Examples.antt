@@ -7,9 +7,9 @@ use lib.IntN.{pos}
 use lib.Ieee.{Float, nan, fin, whole, toSigned, ofInt, toBits, ofBits, ofFields, round, size, climb, span, units, odd}
 use Rattle.maps.specs.Map.{goodSize}
 use Rattle.sheets.specs.declared.code.Kind.the-variants.{Whole, Exact}
-use Rattle.lists.specs.Steps.{is}
+use Rattle.refusals.specs.Steps.{is}
 use Rattle.sheets.specs.Number.{groups, numberBytes, takeGroups, takeNumber}
-use Rattle.sheets.specs.Code.{kindOf, codeOf, cellOf}
+use Rattle.sheets.specs.Code.{kindOf, codeOf, sheetCell}
 use Rattle.sheets.specs.Sheet.{headBytes, cellsBytes, kindSheet, sheetOf, takeVersion, takeSide, takeHead, takeCell, takeCells, readSheet}
 
 -- kind 0, two rows of two cells: the mark and 4, -1 and 0
@@ -24,7 +24,7 @@ unfolding sheetOf kindSheet headBytes cellsBytes numberBytes groups kindOf codeO
 whole-written = refl
 
 pub whole-read : readSheet wholeBytes ≡ is (record { kind = Whole; width = 2; height = 2; cells = wholeCells })
-unfolding readSheet takeHead takeVersion takeSide takeCells takeCell takeNumber takeGroups kindOf cellOf ofInt round size climb span units odd
+unfolding readSheet takeHead takeVersion takeSide takeCells takeCell takeNumber takeGroups kindOf sheetCell ofInt round size climb span units odd
 whole-read = refl
 
 -- kind 1, a row of three: 1, minus zero and the mark; 1's bits are 3F800000, minus zero's 80000000
@@ -39,5 +39,5 @@ unfolding sheetOf kindSheet headBytes cellsBytes numberBytes groups kindOf codeO
 exact-written = refl
 
 pub exact-read : readSheet exactBytes ≡ is (record { kind = Exact; width = 3; height = 1; cells = exactCells })
-unfolding readSheet takeHead takeVersion takeSide takeCells takeCell takeNumber takeGroups kindOf cellOf ofBits ofFields odd
+unfolding readSheet takeHead takeVersion takeSide takeCells takeCell takeNumber takeGroups kindOf sheetCell ofBits ofFields odd
 exact-read = refl

@@ -10,9 +10,9 @@ use borrow.Author.Tests.{lt-ltb, le-ltb, ltb-true, ltb-false, ne-eqb}
 use lib.Dec.{ltb, eqb}
 use lib.ListN.{length, getD, drop, length-append, drop-of-length-le}
 use lib.Seq.{drop-cons}
-use Rattle.lists.specs.Steps.{Or, is, refused}
-use Rattle.sheets.specs.Number.{groups, numberBytes, Taken, above, takeGroups, takeNumber, AllBytes}
-use Rattle.lists.proofs.Stepwise.{not-refused}
+use Rattle.refusals.specs.Steps.{Or, is, refused, Taken}
+use Rattle.sheets.specs.Number.{groups, numberBytes, above, takeGroups, takeNumber, AllBytes}
+use Rattle.refusals.proofs.Stepwise.{not-refused}
 
 -- at most one group more than may follow: at most five
 groups-most : (more n : ℕ) → length (groups more n) ≤ suc more

@@ -23,13 +23,13 @@ use Rattle.sheets.specs.declared.reading.Said.the-variants as said
 use Rattle.sheets.specs.declared.reading.Checked.the-variants as checked
 use Rattle.lists.proofs.Tests.{and-both}
 use Rattle.sheets.specs.Limits.{sheetSideMost, isSheetSide}
-use Rattle.lists.specs.Steps.{Or, is, refused, andThen, given, Accepted, listIn}
-use Rattle.sheets.specs.Number.{Taken, takeNumber}
-use Rattle.sheets.specs.Code.{kindOf, cellOf}
+use Rattle.refusals.specs.Steps.{Or, is, refused, andThen, given, NotRefused, listIn, Taken}
+use Rattle.sheets.specs.Number.{takeNumber}
+use Rattle.sheets.specs.Code.{kindOf, sheetCell}
 use Rattle.sheets.specs.Sheet.{Head, takeVersion, takeSide, takeHead, TakenCell, takeCell, takeCells, cellsAfterHead, sheetWith, readSheet}
-use Rattle.sheets.specs.Outcome.{ReadDone}
-use Rattle.sheets.specs.Answers.{FoundAs, CellAs, HeadAs, storedAs, checkedAs, checkedHead}
-use Rattle.lists.proofs.Stepwise.{not-refused, not-accepted, same-result, same-refusal, then-is, given-is}
+use Rattle.sheets.specs.Outcome.{ReadOutcome}
+use Rattle.sheets.specs.Inner.{FoundAs, CellAs, HeadAs, storedAs, checkedAs, checkedHead}
+use Rattle.refusals.proofs.Stepwise.{not-refused, list-not-refused, same-result, same-refusal, then-is, given-is}
 
 -- ---- a number
 module _ (s : List ℕ) (t : Or Taken) (r : Found) (h : FoundAs s t r) where
@@ -59,21 +59,21 @@ module _ (s : List ℕ) (t : Or Taken) (test : ℕ → Bool) (refusal : ℕ) (r 
 
 -- ---- a cell
 module _ (s : List ℕ) (k : Kind) (rest : List ℕ) (r : Found) (h : FoundAs s (takeNumber rest) r) where
-  pub cell-found : (n next : ℕ) → r ≡ found.Number n next → (x : Float) → stored.Cell x ≡ storedAs (cellOf k n) → CellAs s (takeCell k rest) (cell.Cell x next)
+  pub cell-found : (n next : ℕ) → r ≡ found.Number n next → (x : Float) → stored.Cell x ≡ storedAs (sheetCell k n) → CellAs s (takeCell k rest) (cell.Cell x next)
   unfolding takeCell
   cell-found n next e x q =
       let f = found-number s (takeNumber rest) r h n next e in
-      (rw (f .0, held (cellOf k n) x q), f .1)
+      (rw (f .0, held (sheetCell k n) x q), f .1)
     where
       held : (c : Or Float) (x : Float) → stored.Cell x ≡ storedAs c → c ≡ is x
       held (is y) x q = cc
       held (refused n) x q = cc
 
-  pub cell-none : (n next : ℕ) → r ≡ found.Number n next → (m : ℕ) → stored.Refused m ≡ storedAs (cellOf k n) → takeCell k rest ≡ refused m
+  pub cell-none : (n next : ℕ) → r ≡ found.Number n next → (m : ℕ) → stored.Refused m ≡ storedAs (sheetCell k n) → takeCell k rest ≡ refused m
   unfolding takeCell
   cell-none n next e m q =
       let f = found-number s (takeNumber rest) r h n next e in
-      rw (f .0, none (cellOf k n) m q)
+      rw (f .0, none (sheetCell k n) m q)
     where
       none : (c : Or Float) (m : ℕ) → stored.Refused m ≡ storedAs c → c ≡ refused m
       none (is y) m q = cc
@@ -139,15 +139,15 @@ pub record Filling (k : Kind) (s : List ℕ) (at : ℕ) (out₀ out : List Float
   pub within : i ≤ length out₀
   pub long : length out ≡ length out₀
   pub inside : next ≤ length s
-  pub fine : Accepted (takeCells k (length out₀ - i) (drop next s))
+  pub fine : NotRefused (takeCells k (length out₀ - i) (drop next s))
   pub all : takeCells k (length out₀) (drop at s) ≡ is (take i out ++ listIn (takeCells k (length out₀ - i) (drop next s)))
 
-pub filling-none : (k : Kind) (s : List ℕ) (at : ℕ) (out₀ : List Float) → at ≤ length s → Accepted (takeCells k (length out₀) (drop at s)) → Filling k s at out₀ out₀ at 0
+pub filling-none : (k : Kind) (s : List ℕ) (at : ℕ) (out₀ : List Float) → at ≤ length s → NotRefused (takeCells k (length out₀) (drop at s)) → Filling k s at out₀ out₀ at 0
 filling-none k s at out₀ l h = record { within = zero-le; long = refl; inside = l; fine = rw sub-zero h; all = rw sub-zero h }
 
 -- others that are accepted with a cell before them are accepted, and stand behind it
-others-fine : (x : Float) (others : Or (List Float)) → Accepted (andThen others (λ cells. is (x ∷ cells)))
-    → Accepted others × (listIn (andThen others (λ cells. is (x ∷ cells))) ≡ x ∷ listIn others)
+others-fine : (x : Float) (others : Or (List Float)) → NotRefused (andThen others (λ cells. is (x ∷ cells)))
+    → NotRefused others × (listIn (andThen others (λ cells. is (x ∷ cells))) ≡ x ∷ listIn others)
 others-fine x (is cells) h = (refl, refl)
 others-fine x (refused n) h = not-refused (sym h)
 
@@ -170,7 +170,7 @@ module _ (k : Kind) (s : List ℕ) (at : ℕ) (out₀ out : List Float) (next i 
         let g = found-cell s (takeCell k (drop next s)) r h x past e in
         let others = takeCells k (length out₀ - (i + 1)) (drop past s) in
         let split : takeCells k (length out₀ - i) (drop next s) ≡ andThen others (λ cells. is (x ∷ cells)) = rw (to-read, g .0) in
-        let o = others-fine x others (subst (λ (c : Or (List Float)). Accepted c) split (f .fine)) in
+        let o = others-fine x others (subst (λ (c : Or (List Float)). NotRefused c) split (f .fine)) in
         record {
           within = omega (arith, f .long);
           long = simp length-set (f .long);
@@ -183,7 +183,7 @@ module _ (k : Kind) (s : List ℕ) (at : ℕ) (out₀ out : List Float) (next i 
     unfolding takeCells
     filling-refused n e =
         let bad : takeCells k (length out₀ - i) (drop next s) ≡ refused n = rw (to-read, cell-refused s (takeCell k (drop next s)) r h n e) in
-        not-accepted (takeCells k (length out₀ - i) (drop next s)) bad (f .fine)
+        list-not-refused (takeCells k (length out₀ - i) (drop next s)) bad (f .fine)
 
   pub filling-done : length out ≤ i → takeCells k (length out₀) (drop at s) ≡ is out
   filling-done l =
@@ -288,7 +288,7 @@ module _ (s : List ℕ) (h : Head) (e : takeHead s ≡ is h) where
 -- what a head says whose cells were looked at
 pub record Looked (s : List ℕ) (head : Head) : Type 0 where
   pub taken : takeHead s ≡ is head
-  pub fine : Accepted (cellsAfterHead head)
+  pub fine : NotRefused (cellsAfterHead head)
   pub says : readSheet s ≡ is (sheetWith head (listIn (cellsAfterHead head)))
 
 pub looked : (s : List ℕ) (head : Head) → checkedHead s ≡ is head → Looked s head
@@ -317,21 +317,21 @@ looked-refused s n = by-head (takeHead s)
 
 -- ---- what `read_sheet` does, by its tests
 
-pub read-refused : (s : List ℕ) (n : ℕ) (out : List Float) → checkedHead s ≡ refused n → ReadDone (said.Refused n) (readSheet s) out out
+pub read-refused : (s : List ℕ) (n : ℕ) (out : List Float) → checkedHead s ≡ refused n → ReadOutcome (said.Refused n) (readSheet s) out out
 read-refused s n out e = let r = looked-refused s n e in record { answers = rw r; outs = rw r }
 
 module _ (s : List ℕ) (h : Head) (e : checkedHead s ≡ is h) (out : List Float) where
-  pub read-unfit : (length out ≡ h .width * h .height → ⊥) → ReadDone (said.Refused 11) (readSheet s) out out
+  pub read-unfit : (length out ≡ h .width * h .height → ⊥) → ReadOutcome (said.Refused 11) (readSheet s) out out
   read-unfit far =
       let l = looked s h e in
       let t = ne-eqb (length out) (h .width * h .height) far in
       record { answers = rw (l .says, t); outs = rw (l .says, t) }
 
-  pub read-fine : length out ≡ h .width * h .height → Accepted (takeCells (h .kind) (length out) (h .rest))
+  pub read-fine : length out ≡ h .width * h .height → NotRefused (takeCells (h .kind) (length out) (h .rest))
   read-fine fit = rw fit (looked s h e .fine)
 
   pub read-done : length out ≡ h .width * h .height → (out′ : List Float) → takeCells (h .kind) (length out) (h .rest) ≡ is out′
-      → ReadDone (said.Map (h .kind) (h .width) (h .height)) (readSheet s) out out′
+      → ReadOutcome (said.Map (h .kind) (h .width) (h .height)) (readSheet s) out out′
   read-done fit out′ f =
       let l = looked s h e in
       let t = eq-eqb (length out) (h .width * h .height) fit in

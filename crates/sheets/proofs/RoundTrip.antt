@@ -1,30 +1,32 @@
 -- THE ROUND TRIP: reading what was written gives the map back, and what was read is written as the same bytes, for both kinds. Assumes nothing.
-use Prim.Native.Nat.{ℕ, zero, suc, _*_}
+use Prim.Native.Nat.{ℕ, zero, suc, _*_, _≤_}
 use mathlib.Core.Path.{_≡_, refl, sym, ap, _∙_, subst}
 use mathlib.Core.Bool.{Bool, true, false, cond}
 use mathlib.Core.List.{List, [], _∷_, _++_, append-assoc}
 use native.Mathlib.Omega.{arith}
 use borrow.Author.Tests.{le-leb, eq-eqb, eqb-true}
 use lib.Dec.{leb, eqb}
-use lib.ListN.{length, take}
+use lib.ListN.{length, take, drop}
+use lib.Seq.{take-at}
 use lib.Ieee.{Float}
 use Rattle.lists.proofs.Tests.{and-both}
 use Rattle.maps.specs.Map.{goodSize}
 use Rattle.maps.proofs.Facts.{good}
 use Rattle.maps.specs.Cells.{AllFit}
 use Rattle.sheets.specs.declared.code.Kind.{Kind}
-use Rattle.lists.specs.declared.Written.the-variants as written
+use Rattle.refusals.specs.declared.Written.{Written}
+use Rattle.refusals.specs.declared.Written.the-variants as written
 use Rattle.sheets.specs.declared.reading.Said.{Said}
 use Rattle.sheets.specs.declared.reading.Said.the-variants as said
 use Rattle.sheets.specs.Limits.{version, sheetSideMost, isSheetSide}
-use Rattle.lists.specs.Steps.{is, refused, andThen}
-use Rattle.sheets.specs.Number.{Taken, numberBytes, takeNumber, AllBytes}
-use Rattle.sheets.specs.Code.{kindNumber, kindOf, codeOf, cellOf}
+use Rattle.refusals.specs.Steps.{Or, is, refused, andThen, given, Taken}
+use Rattle.sheets.specs.Number.{numberBytes, takeNumber, AllBytes}
+use Rattle.sheets.specs.Code.{kindNumber, kindOf, codeOf, sheetCell}
 use Rattle.sheets.specs.Sheet.{Sheet, Head, headBytes, cellsBytes, kindSheet, sheetOf, takeVersion, takeSide, takeHead, TakenCell, takeCell, takeCells, cellsAfterHead, readSheet}
-use Rattle.lists.specs.Writes.{WriteDone}
-use Rattle.lists.proofs.Writes.{written-is}
-use Rattle.sheets.specs.Outcome.{ReadDone}
-use Rattle.lists.proofs.Stepwise.{not-refused, same-result, then-is}
+use Rattle.refusals.specs.Writes.{WriteOutcome}
+use Rattle.refusals.proofs.Writes.{written-is}
+use Rattle.sheets.specs.Outcome.{sizeSaid, cellsAfter, ReadOutcome}
+use Rattle.refusals.proofs.Stepwise.{not-refused, same-result, then-is}
 use Rattle.sheets.proofs.Numbers.{take-back, bytes-back}
 use Rattle.sheets.proofs.Codes.{code-back, cell-back, code-small, kind-back, kind-number, kind-small}
 use Rattle.sheets.proofs.Readings.{Sides, side-most, head-parts, head-sides, tested-is}
@@ -130,7 +132,7 @@ cell-from : (k : Kind) (s : List ℕ) (t : TakenCell) → AllBytes s → takeCel
 unfolding takeCell
 cell-from k s t all e =
     let number = then-is (takeNumber s) _ t e in
-    let x = then-is (cellOf k (number .0 .number)) _ t (number .2) in
+    let x = then-is (sheetCell k (number .0 .number)) _ t (number .2) in
     let same = same-result (x .2) in
     let back = bytes-back s (number .0) all (number .1) in
     rw (← same) (record { number = number .0 .number; front = back .0; code = cell-back k (number .0 .number) (x .0) (x .1); bytes = back .1 })
@@ -191,10 +193,38 @@ one-sheet s s′ d all all′ e e′ = same-result (sym (writes-back s d all e) 
 
 -- THEOREM: a map that was written and whose bytes were read into as many cells is there again
 pub mailed : (kind : ℕ) (k : Kind) (w h : ℕ) (cells : List Float) (n : ℕ) (out out′ : List ℕ) (r : Said) (back back′ : List Float) → AllFit cells → kindOf kind ≡ is k
-    → WriteDone 33 (written.Bytes n) (sheetOf kind w h cells) out out′
-    → ReadDone r (readSheet (take n out′)) back back′ → length back ≡ w * h
+    → WriteOutcome 33 (written.Bytes n) (sheetOf kind w h cells) out out′
+    → ReadOutcome r (readSheet (take n out′)) back back′ → length back ≡ w * h
     → (r ≡ said.Map k w h) × (back′ ≡ cells)
 mailed kind k w h cells n out out′ r back back′ fit known done read size =
     let says = reads-back kind k w h cells (take n out′) fit known (written-is (sheetOf kind w h cells) n out out′ done) in
     let roomy = eq-eqb (length back) (w * h) size in
     (read .answers ∙ rw (says, roomy), read .outs ∙ rw (says, roomy))
+
+-- what an answered map says: the bytes are a sheet of that kind and size, and its cells are what was left
+read-is : (o : Or Sheet) (k : Kind) (w h : ℕ) (out cells : List Float) → ReadOutcome (said.Map k w h) o out cells → o ≡ is (record { kind = k; width = w; height = h; cells = cells })
+read-is (refused n) k w h out cells d = let e = d .answers in cc
+read-is (is sheet) k w h out cells d = go (eqb (length out) (sheet .width * sheet .height)) (d .answers) (d .outs)
+  where
+    go : (t : Bool) → said.Map k w h ≡ sizeSaid (given t 11 sheet) → cells ≡ cellsAfter (given t 11 sheet) out → is sheet ≡ is (record { kind = k; width = w; height = h; cells = cells })
+    go true e o =
+        let kinds : k ≡ sheet .kind = cc in
+        let wide : w ≡ sheet .width = cc in
+        let high : h ≡ sheet .height = cc in
+        rw (kinds, wide, high, o)
+    go false e o = cc
+
+-- THEOREM: a map that was read, and whose cells were written in its kind into an output that is long enough, has the same bytes
+pub mailed-back : (s : List ℕ) (k : Kind) (w h : ℕ) (out cells : List Float) (r : Written) (text text′ : List ℕ) → AllBytes s
+    → ReadOutcome (said.Map k w h) (readSheet s) out cells
+    → WriteOutcome 33 r (sheetOf (kindNumber k) w h cells) text text′ → length s ≤ length text
+    → (r ≡ written.Bytes (length s)) × (take (length s) text′ ≡ s)
+mailed-back s k w h out cells r text text′ all read done long =
+    let same = writes-back s (record { kind = k; width = w; height = h; cells = cells }) all (read-is (readSheet s) k w h out cells read) in
+    let fits = le-leb (length s) (length text) long in
+    (done .answers ∙ rw (same, fits), ap (take (length s)) (done .outs ∙ rw (same, fits)) ∙ take-at s (drop (length s) text) (length s) refl)
+
+-- THEOREM: two byte strings that are read as the same kind, size and cells are the same
+pub one-sheet-call : (s s′ : List ℕ) (k : Kind) (w h : ℕ) (out out′ cells : List Float) → AllBytes s → AllBytes s′
+    → ReadOutcome (said.Map k w h) (readSheet s) out cells → ReadOutcome (said.Map k w h) (readSheet s′) out′ cells → s ≡ s′
+one-sheet-call s s′ k w h out out′ cells all all′ read read′ = one-sheet s s′ _ all all′ (read-is (readSheet s) k w h out cells read) (read-is (readSheet s′) k w h out′ cells read′)

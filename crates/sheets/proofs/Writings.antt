@@ -16,17 +16,17 @@ use Rattle.sheets.specs.declared.code.Known.{Known}
 use Rattle.sheets.specs.declared.code.Known.the-variants as known
 use Rattle.sheets.specs.declared.code.Code.{Code}
 use Rattle.sheets.specs.declared.code.Code.the-variants as code
-use Rattle.lists.specs.declared.Written.{Written}
-use Rattle.lists.specs.declared.Written.the-variants as written
+use Rattle.refusals.specs.declared.Written.{Written}
+use Rattle.refusals.specs.declared.Written.the-variants as written
 use Rattle.sheets.specs.Limits.{version}
-use Rattle.lists.specs.Steps.{Or, is, refused, andThen, listIn, Accepted}
+use Rattle.refusals.specs.Steps.{Or, is, refused, andThen, listIn, NotRefused}
 use Rattle.sheets.specs.Number.{numberBytes}
 use Rattle.sheets.specs.Code.{kindNumber, kindOf, codeOf}
 use Rattle.sheets.specs.Sheet.{headBytes, cellsBytes, kindSheet, sheetOf}
-use Rattle.lists.specs.Writes.{byteCount}
-use Rattle.sheets.specs.Answers.{knownAs, codeAs, CodeSmall}
-use Rattle.lists.proofs.Stepwise.{not-accepted}
-use Rattle.lists.proofs.Writes.{Measured}
+use Rattle.refusals.specs.Writes.{byteCount}
+use Rattle.sheets.specs.Inner.{knownAs, codeAs, CodeSmall}
+use Rattle.refusals.proofs.Stepwise.{list-not-refused}
+use Rattle.refusals.proofs.Writes.{Measured}
 use Rattle.sheets.proofs.Numbers.{number-most}
 use Rattle.sheets.proofs.Codes.{kind-is, kind-refused, kind-small}
 
@@ -75,12 +75,12 @@ module _ (k : Kind) (cells : List Float) where
     passed-all b = p .whole ∙ rw (drop-of-length-le cells b, append-nil)
 
     -- what was passed is a part of the whole
-    pub passed-fits : Accepted (cellsBytes k cells) → length done ≤ length (listIn (cellsBytes k cells))
+    pub passed-fits : NotRefused (cellsBytes k cells) → length done ≤ length (listIn (cellsBytes k cells))
     passed-fits a = go (cellsBytes k (drop i cells)) (cellsBytes k cells) (p .whole) a
       where
-        go : (rest all : Or (List ℕ)) → all ≡ behind done rest → Accepted all → length done ≤ length (listIn all)
+        go : (rest all : Or (List ℕ)) → all ≡ behind done rest → NotRefused all → length done ≤ length (listIn all)
         go (is bytes) all e h = rw e (omega (arith, length-append done bytes))
-        go (refused n) all e h = not-accepted all e h
+        go (refused n) all e h = list-not-refused all e h
 
     module _ (n : ℕ) (b : i < length cells) where
       pub passed-more : codeOf k (getD cells i nan) ≡ is n → Passed k cells (i + 1) (done ++ numberBytes n)
@@ -129,7 +129,7 @@ counted-same e = cc
 
 -- a sheet of n bytes: its head, and its cells, none of which is refused
 pub record SheetBytes (k : Kind) (w h : ℕ) (cells : List Float) (n : ℕ) : Type 0 where
-  pub accepted : Accepted (cellsBytes k cells)
+  pub there : NotRefused (cellsBytes k cells)
   pub whole : kindSheet k w h cells ≡ is (headBytes k w h ++ listIn (cellsBytes k cells))
   pub size : n ≡ length (headBytes k w h) + length (listIn (cellsBytes k cells))
 
@@ -141,9 +141,9 @@ module _ (k : Kind) (w h : ℕ) (cells : List Float) where
       let whole = ap (behind (headBytes k w h)) fine in
       let bytes = listIn (cellsBytes k cells) in
       let count : n ≡ length (headBytes k w h ++ bytes) = counted-same (sym q ∙ e ∙ ap byteCount whole) in
-      record { accepted = fine; whole = whole; size = count ∙ length-append (headBytes k w h) bytes }
+      record { there = fine; whole = whole; size = count ∙ length-append (headBytes k w h) bytes }
     where
-      go : (list : Or (List ℕ)) → r ≡ byteCount (behind (headBytes k w h) list) → Accepted list
+      go : (list : Or (List ℕ)) → r ≡ byteCount (behind (headBytes k w h) list) → NotRefused list
       go (is bytes) f = refl
       go (refused m) f = cc
 
@@ -152,7 +152,7 @@ module _ (k : Kind) (w h : ℕ) (cells : List Float) where
   sheet-count {m} {n} e c =
       let bytes = listIn (cellsBytes k cells) in
       let sum : m + n ≡ length (headBytes k w h ++ bytes) = omega (arith, c .count, length-append (headBytes k w h) bytes) in
-      ap written.Bytes sum ∙ sym (ap (λ (list : Or (List ℕ)). byteCount (behind (headBytes k w h) list)) (c .accepted))
+      ap written.Bytes sum ∙ sym (ap (λ (list : Or (List ℕ)). byteCount (behind (headBytes k w h) list)) (c .there))
 
   pub sheet-refused : (n : ℕ) → cellsBytes k cells ≡ refused n → kindSheet k w h cells ≡ refused n
   unfolding kindSheet

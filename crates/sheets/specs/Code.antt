@@ -1,6 +1,7 @@
 -- The kinds of a sheet, and the number that stands for a cell in each. Definitions only.
 use Prim.Native.Nat.{ℕ, zero, suc, _+_, _*_, _/_, _%_, _^_}
-use mathlib.Core.Bool.{Bool, cond, _&&_}
+use mathlib.Core.Bool.{Bool, true, false, not, cond, _&&_, _||_}
+use mathlib.Core.List.{List, [], _∷_}
 use lib.Dec.{ltb, eqb}
 use lib.IntN.{ℤ, pos, negsuc}
 use lib.Ieee.{Float, nan, inf, fin, binary32, whole, toSigned, ofInt, toBits, ofBits}
@@ -8,7 +9,8 @@ use lib.Ieee.Scale.{finite}
 use Rattle.sheets.specs.declared.code.Kind.{Kind}
 use Rattle.sheets.specs.declared.code.Kind.the-variants.{Whole, Exact}
 use Rattle.sheets.specs.Limits.{isWholeCell}
-use Rattle.lists.specs.Steps.{Or, is, refused, given}
+use Rattle.refusals.specs.Answered.{Row, row}
+use Rattle.refusals.specs.Steps.{Or, is, refused, given}
 
 -- the number of a kind: 0 holds whole disparities, 1 any numbers
 abbrev pub kindNumber : Kind → ℕ
@@ -20,6 +22,10 @@ unfoldable pub kindOf : ℕ → Or Kind
 kindOf zero = is Whole
 kindOf (suc zero) = is Exact
 kindOf (suc (suc n)) = refused 35
+
+-- whether it has one
+abbrev pub knownKind : ℕ → Bool
+knownKind n = eqb n 0 || eqb n 1
 
 -- whole numbers folded: 0, -1, 1, -2 become 0, 1, 2, 3
 abbrev pub folded : ℤ → ℕ
@@ -41,12 +47,27 @@ codeOf k (inf s) = refused 31
 codeOf Whole (fin s m e) = given (isWhole (fin s m e)) 32 (1 + folded (toSigned 31 (fin s m e)))
 codeOf Exact (fin s m e) = is (1 + toBits binary32 (fin s m e))
 
+-- an infinity
+abbrev pub infinite : Float → Bool
+infinite nan = false
+infinite (inf s) = true
+infinite (fin s m e) = false
+
+-- a finite cell that a kind holds: kind 1 all of them
+abbrev pub holds : Kind → Float → Bool
+holds Whole x = isWhole x
+holds Exact x = true
+
+-- a cell's rows: 31 an infinity, 32 a finite cell that the kind does not hold
+abbrev pub codeRows : Kind → Float → List Row
+codeRows k x = row 31 (infinite x) ∷ row 32 (finite x && not (holds k x)) ∷ []
+
 -- the bits of a finite f32
 abbrev pub isFinitePattern : ℕ → Bool
 isFinitePattern b = ltb b (2 ^ 32) && finite (ofBits binary32 b)
 
 -- the cell of a number: 37 where no cell has it
-unfoldable pub cellOf : Kind → ℕ → Or Float
-cellOf k zero = is nan
-cellOf Whole (suc m) = given (isWholeCell (unfolded m)) 37 (ofInt binary32 (unfolded m))
-cellOf Exact (suc b) = given (isFinitePattern b) 37 (ofBits binary32 b)
+unfoldable pub sheetCell : Kind → ℕ → Or Float
+sheetCell k zero = is nan
+sheetCell Whole (suc m) = given (isWholeCell (unfolded m)) 37 (ofInt binary32 (unfolded m))
+sheetCell Exact (suc b) = given (isFinitePattern b) 37 (ofBits binary32 b)

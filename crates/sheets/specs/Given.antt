@@ -1,6 +1,6 @@
 -- What a sheet's answer gives back. Definitions only.
 use Prim.Native.Nat.{ℕ}
-use Rattle.lists.specs.Steps.{Or, is, refused}
+use Rattle.refusals.specs.Steps.{Or, is, refused}
 use Rattle.sheets.specs.declared.reading.Said.{Said}
 use Rattle.sheets.specs.declared.reading.Said.the-variants as said
 use Rattle.sheets.specs.Code.{kindNumber}

@@ -1,8 +1,9 @@
--- The sheet of a map, as bytes, and what bytes say, in the order in which they are to be read.
+-- The sheet of a map, as bytes, and what bytes say. What a reader must believe, in the order in which it is to be read.
 pub mod Limits
 pub mod Number
 pub mod Code
 pub mod Sheet
 pub mod Outcome
 pub mod Given
-pub mod Answers
+-- what serves the functions inside alone
+pub mod Inner

@@ -3,7 +3,7 @@ use Prim.Native.Nat.{ℕ, zero, suc, _+_, _-_, _*_, _/_, _%_, _<_}
 use mathlib.Core.Bool.{cond}
 use mathlib.Core.List.{List, [], _∷_}
 use lib.Dec.{ltb}
-use Rattle.lists.specs.Steps.{Or, is, refused}
+use Rattle.refusals.specs.Steps.{Or, is, refused, Taken}
 
 -- a number's bytes where `more` groups may follow the first
 unfoldable pub groups : ℕ → ℕ → List ℕ
@@ -14,11 +14,6 @@ groups (suc more) n = cond (ltb n 128) (n ∷ []) ((128 + n % 128) ∷ groups mo
 unfoldable pub numberBytes : ℕ → List ℕ
 unfolding groups
 numberBytes n = groups 4 n
-
--- a number that was read, and the bytes after it
-pub record Taken : Type 0 where
-  pub number : ℕ
-  pub rest : List ℕ
 
 -- a low group, and what was read after it: 34 where that is no number, or a last group of 0, which the shortest form does not have
 abbrev pub above : ℕ → Or Taken → Or Taken

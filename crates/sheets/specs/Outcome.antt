@@ -7,7 +7,8 @@ use lib.Dec.{eqb}
 use lib.Ieee.{Float}
 use Rattle.sheets.specs.declared.reading.Said.{Said}
 use Rattle.sheets.specs.declared.reading.Said.the-variants as said
-use Rattle.lists.specs.Steps.{Or, is, refused, andThen, given}
+use Rattle.refusals.specs.Steps.{Or, is, refused, andThen, given}
+use Rattle.refusals.specs.Given.{valueAfter}
 use Rattle.sheets.specs.Sheet.{Sheet}
 
 -- ---- reading
@@ -23,10 +24,9 @@ sizeSaid (refused n) = said.Refused n
 
 -- the output afterwards: the cells
 abbrev pub cellsAfter : Or Sheet → List Float → List Float
-cellsAfter (is d) out = d .cells
-cellsAfter (refused n) out = out
+cellsAfter sheet out = valueAfter (andThen sheet (λ d. is (d .cells))) out
 
 -- what a call of `read_sheet` does, for what the bytes say or their refusal
-pub record ReadDone (answer : Said) (sheet : Or Sheet) (out out′ : List Float) : Type 0 where
+pub record ReadOutcome (answer : Said) (sheet : Or Sheet) (out out′ : List Float) : Type 0 where
   pub answers : answer ≡ sizeSaid (cellsFor (length out) sheet)
   pub outs : out′ ≡ cellsAfter (cellsFor (length out) sheet) out

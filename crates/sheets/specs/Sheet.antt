@@ -1,16 +1,17 @@
 -- The sheet of a map of a kind, as a list of bytes, and what a list of bytes says. Definitions only.
 use Prim.Native.Nat.{ℕ, zero, suc, _*_}
-use mathlib.Core.Bool.{cond}
+use mathlib.Core.Bool.{not, cond}
 use mathlib.Core.List.{List, [], _∷_, _++_}
 use lib.ListN.{length}
 use lib.Dec.{eqb}
 use lib.Ieee.{Float}
-use Rattle.maps.specs.Map.{goodSize}
+use Rattle.maps.specs.Map.{goodSize, sizeRows}
 use Rattle.sheets.specs.declared.code.Kind.{Kind}
 use Rattle.sheets.specs.Limits.{version, isSheetSide}
-use Rattle.lists.specs.Steps.{Or, is, refused, andThen, given}
-use Rattle.sheets.specs.Number.{Taken, numberBytes, takeNumber}
-use Rattle.sheets.specs.Code.{kindNumber, kindOf, codeOf, cellOf}
+use Rattle.refusals.specs.Answered.{Row, row}
+use Rattle.refusals.specs.Steps.{Or, is, refused, andThen, given, Taken}
+use Rattle.sheets.specs.Number.{numberBytes, takeNumber}
+use Rattle.sheets.specs.Code.{kindNumber, kindOf, knownKind, codeOf, codeRows, sheetCell}
 
 -- ---- writing
 
@@ -30,6 +31,20 @@ kindSheet k w h cells = andThen (cellsBytes k cells) (λ bytes. is (headBytes k 
 -- the same with the kind given by its number: 23, then 35, then the first bad cell by rows
 unfoldable pub sheetOf : ℕ → ℕ → ℕ → List Float → Or (List ℕ)
 sheetOf kind w h cells = cond (goodSize w h (length cells)) (andThen (kindOf kind) (λ k. kindSheet k w h cells)) (refused 23)
+
+-- the rows of the cells, one after another
+abbrev pub cellRows : Kind → List Float → List Row
+cellRows k [] = []
+cellRows k (x ∷ xs) = codeRows k x ++ cellRows k xs
+
+-- the same of a kind that may be unknown, which has none
+abbrev pub kindRows : Or Kind → List Float → List Row
+kindRows (is k) cells = cellRows k cells
+kindRows (refused n) cells = []
+
+-- the rows of a sheet that is written: its size, 35 its kind, and then those of the cells
+abbrev pub sheetRows : ℕ → ℕ → ℕ → List Float → List Row
+sheetRows kind w h cells = sizeRows w h (length cells) ++ row 35 (not (knownKind kind)) ∷ kindRows (kindOf kind) cells
 
 -- ---- reading
 
@@ -72,7 +87,7 @@ pub record TakenCell : Type 0 where
 
 -- the cell at the front
 unfoldable pub takeCell : Kind → List ℕ → Or TakenCell
-takeCell k s = andThen (takeNumber s) (λ t. andThen (cellOf k (t .number)) (λ x. is (record { cell = x; rest = t .rest })))
+takeCell k s = andThen (takeNumber s) (λ t. andThen (sheetCell k (t .number)) (λ x. is (record { cell = x; rest = t .rest })))
 
 -- n cells, and then no byte more: 38 where there is one
 unfoldable pub takeCells : Kind → ℕ → List ℕ → Or (List Float)

@@ -7,8 +7,8 @@ ghost use mathlib.Core.Path.{_≡_};
 ghost use mathlib.Core.Bool.{true};
 ghost use Prim.Native.Nat.{suc};
 ghost use lib.Ieee.Scale.{finite};
-ghost use Rattle.sheets.specs.Code.{kindNumber, kindOf, codeOf, cellOf};
-ghost use Rattle.sheets.specs.Answers.{knownAs, codeAs, CodeSmall, storedAs};
+ghost use Rattle.sheets.specs.Code.{kindNumber, kindOf, codeOf, sheetCell};
+ghost use Rattle.sheets.specs.Inner.{knownAs, codeAs, CodeSmall, storedAs};
 
 // What a sheet holds: whole disparities, or any numbers by their bits.
 pub enum Kind {
@@ -102,7 +102,7 @@ pub fn code_of(kind: Kind, x: f32) -> Code
 
 // The cell of a number above 0 in kind 0, less 1.
 fn whole_cell(folded: u64) -> Stored
-    ensures { λ r. ⌜ r ≡ storedAs (cellOf Kind.Whole (suc folded)) ⌝ }
+    ensures { λ r. ⌜ r ≡ storedAs (sheetCell Kind.Whole (suc folded)) ⌝ }
 {
     if WHOLE_MOST * 2 < folded {
         return Stored::Refused(37);
@@ -117,7 +117,7 @@ fn whole_cell(folded: u64) -> Stored
 
 // The cell of a number above 0 in kind 1, less 1.
 fn exact_cell(bits: u64) -> Stored
-    ensures { λ r. ⌜ r ≡ storedAs (cellOf Kind.Exact (suc bits)) ⌝ }
+    ensures { λ r. ⌜ r ≡ storedAs (sheetCell Kind.Exact (suc bits)) ⌝ }
 {
     if 0xffff_ffff < bits {
         return Stored::Refused(37);
@@ -131,7 +131,7 @@ fn exact_cell(bits: u64) -> Stored
 
 // The cell of a number.
 pub fn cell_of(kind: Kind, code: u64) -> Stored
-    ensures { λ r. ⌜ r ≡ storedAs (cellOf kind code) ⌝ }
+    ensures { λ r. ⌜ r ≡ storedAs (sheetCell kind code) ⌝ }
 {
     if code == 0 {
         return Stored::Cell(Cell::Mark.stored());

@@ -7,7 +7,7 @@ ghost use lib.Dec.{ltb, eqb};
 ghost use lib.ListN.{length, drop};
 ghost use Rattle.lists.specs.Stores.{Wrote};
 ghost use Rattle.sheets.specs.Number.{numberBytes, takeNumber};
-ghost use Rattle.sheets.specs.Answers.{FoundAs};
+ghost use Rattle.sheets.specs.Inner.{FoundAs};
 
 // The most groups that a number has.
 const GROUPS_MOST: usize = 5;

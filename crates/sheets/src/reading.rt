@@ -11,10 +11,10 @@ use crate::number::read_number;
 ghost use mathlib.Core.Path.{_≡_};
 ghost use Prim.Native.Nat.{_≤_};
 ghost use lib.ListN.{length, drop};
-ghost use Rattle.lists.specs.Steps.{is, Accepted};
+ghost use Rattle.refusals.specs.Steps.{is, NotRefused};
 ghost use Rattle.sheets.specs.Sheet.{takeVersion, takeSide, takeHead, takeCell, takeCells, readSheet};
-ghost use Rattle.sheets.specs.Outcome.{sizeSaid, ReadDone};
-ghost use Rattle.sheets.specs.Answers.{checkedAs, checkedHead, FoundAs, CellAs, HeadAs};
+ghost use Rattle.sheets.specs.Outcome.{sizeSaid, ReadOutcome};
+ghost use Rattle.sheets.specs.Inner.{checkedAs, checkedHead, FoundAs, CellAs, HeadAs};
 
 // What a sheet is: its kind, width and height, or the refusal.
 pub enum Said {
@@ -142,7 +142,7 @@ fn check_cells(kind: Kind, count: usize, s: &[u8], at: usize) -> Checked
 // Reads the cells from a place on, as many as `out` holds. No cell is refused: they were looked at.
 fn fill_cells(kind: Kind, s: &[u8], at: usize, out: &mut [f32])
     requires { ⌜ at ≤ length (now s) ⌝ }
-    requires { ⌜ Accepted (takeCells kind (length (now out)) (drop at (now s))) ⌝ }
+    requires { ⌜ NotRefused (takeCells kind (length (now out)) (drop at (now s))) ⌝ }
     ensures { λ _. ⌜ takeCells kind (length (now (out .entry))) (drop at (now (s .entry))) ≡ is (now (out .exit)) ⌝ }
 {
     let mut next = at;
@@ -188,7 +188,7 @@ pub fn sheet_size(s: &[u8]) -> Said
 
 // Reads a sheet's cells into `out`, which is to be as long as the map.
 pub fn read_sheet(s: &[u8], out: &mut [f32]) -> Said
-    ensures { λ r. ⌜ ReadDone r (readSheet (now (s .entry))) (now (out .entry)) (now (out .exit)) ⌝ }
+    ensures { λ r. ⌜ ReadOutcome r (readSheet (now (s .entry))) (now (out .entry)) (now (out .exit)) ⌝ }
 {
     match check_sheet(s) {
         FoundHead::Refused(n) => Said::Refused(n),

@@ -7,8 +7,8 @@ use crate::code::kind_of;
 use crate::limits::VERSION;
 use crate::number::number_length;
 use crate::number::put_number;
-use lists::Written;
 use maps::size_good;
+use refusals::Written;
 ghost use mathlib.Core.Path.{_≡_};
 ghost use mathlib.Core.Bool.{true};
 ghost use Prim.Native.Nat.{_+_, _*_, _≤_};
@@ -17,8 +17,8 @@ ghost use Rattle.lists.specs.Stores.{Wrote};
 ghost use Rattle.options.specs.Limits.{sideMost};
 ghost use Rattle.maps.specs.Map.{goodSize};
 ghost use Rattle.sheets.specs.Sheet.{headBytes, cellsBytes, kindSheet, sheetOf};
-ghost use Rattle.lists.specs.Writes.{byteCount, WriteDone};
-ghost use Rattle.lists.specs.Steps.{Accepted, listIn};
+ghost use Rattle.refusals.specs.Writes.{byteCount, WriteOutcome};
+ghost use Rattle.refusals.specs.Steps.{NotRefused, listIn};
 
 // How many bytes the cells take.
 fn cells_length(kind: Kind, cells: &[f32]) -> Written
@@ -93,7 +93,7 @@ fn put_head(kind: Kind, width: usize, height: usize, out: &mut [u8]) -> usize
 
 // Puts the cells into `out` from `at` on, and answers the place past them. No cell is refused: the sheet's length was worked out.
 fn put_cells(kind: Kind, cells: &[f32], out: &mut [u8], at: usize) -> usize
-    requires { ⌜ Accepted (cellsBytes kind (now cells)) ⌝ }
+    requires { ⌜ NotRefused (cellsBytes kind (now cells)) ⌝ }
     requires { ⌜ at + length (listIn (cellsBytes kind (now cells))) ≤ length (now out) ⌝ }
     ensures { λ r. ⌜ Wrote (now (out .entry)) at (listIn (cellsBytes kind (now (cells .entry)))) (now (out .exit)) r ⌝ }
 {
@@ -116,7 +116,7 @@ fn put_cells(kind: Kind, cells: &[f32], out: &mut [u8], at: usize) -> usize
 // Writes the sheet of a kind.
 fn write_kind(kind: Kind, cells: &[f32], width: usize, height: usize, out: &mut [u8]) -> Written
     requires { ⌜ goodSize width height (length (now cells)) ≡ true ⌝ }
-    ensures { λ r. ⌜ WriteDone 33 r (kindSheet kind width height (now (cells .entry))) (now (out .entry)) (now (out .exit)) ⌝ }
+    ensures { λ r. ⌜ WriteOutcome 33 r (kindSheet kind width height (now (cells .entry))) (now (out .entry)) (now (out .exit)) ⌝ }
 {
     match kind_length(kind, cells, width, height) {
         Written::Bytes(n) => {
@@ -133,7 +133,7 @@ fn write_kind(kind: Kind, cells: &[f32], width: usize, height: usize, out: &mut 
 
 // Writes the sheet of a map of a kind at the front of `out`, and answers its byte count; bytes beyond it are left as they were.
 pub fn write_sheet(cells: &[f32], width: usize, height: usize, kind: u64, out: &mut [u8]) -> Written
-    ensures { λ r. ⌜ WriteDone 33 r (sheetOf kind width height (now (cells .entry))) (now (out .entry)) (now (out .exit)) ⌝ }
+    ensures { λ r. ⌜ WriteOutcome 33 r (sheetOf kind width height (now (cells .entry))) (now (out .entry)) (now (out .exit)) ⌝ }
 {
     if size_good(width, height, cells.len()) {
         match kind_of(kind) {

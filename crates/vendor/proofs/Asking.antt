@@ -16,33 +16,34 @@ use Rattle.options.specs.declared.RawCost.the-variants.{Blank}
 use Rattle.vendor.specs.declared.Check.{Check}
 use Rattle.vendor.specs.declared.cells.Pixel.{Pixel}
 use Rattle.vendor.specs.declared.cells.Question.{Question}
-use Rattle.vendor.specs.Verdict.{firstNot, costAt}
+use Rattle.lists.specs.Lists.{firstNot}
+use Rattle.vendor.specs.Verdict.{costAt}
 use Rattle.vendor.specs.Tests.{indexNamed, ownCost, holds, holdsAt}
-use Rattle.vendor.specs.Ready.{Placed}
-use Rattle.vendor.proofs.Firsts.{first-none, first-here}
+use Rattle.vendor.specs.Inner.{PixelPlaced}
+use Rattle.lists.proofs.Firsts.{first-none, first-here}
 
 -- ---- the pixels by rows
 
 -- a pixel's index from its row and column
-placed-index : {w : ℕ} {at : Pixel} → Placed w at → at .p ≡ at .y * w + at .x
+placed-index : {w : ℕ} {at : Pixel} → PixelPlaced w at → at .p ≡ at .y * w + at .x
 placed-index {w} {at} z = rw (z .column, z .row) (sym (div-add-mod' (at .p) w))
 
 -- its column is one of the row
-pub placed-column : {w : ℕ} {at : Pixel} → Placed w at → 1 ≤ w → at .x < w
+pub placed-column : {w : ℕ} {at : Pixel} → PixelPlaced w at → 1 ≤ w → at .x < w
 placed-column {w} {at} z some = rw (z .column) (mod-lt (at .p) some)
 
 -- a column of a row is a pixel
-placed : (w x y p : ℕ) → x < w → p ≡ y * w + x → Placed w (record { p = p; x = x; y = y })
+placed : (w x y p : ℕ) → x < w → p ≡ y * w + x → PixelPlaced w (record { p = p; x = x; y = y })
 placed w x y p l e = record { column = sym (ap (λ n. n % w) e ∙ in-column w x y l); row = sym (ap (λ n. n / w) e ∙ in-row w x y l) }
 
 -- after the last pixel of a row comes the first of the next
-pub next-row : {w : ℕ} {at : Pixel} → Placed w at → 1 ≤ w → at .x + 1 ≡ w → Placed w (record { p = at .p + 1; x = 0; y = at .y + 1 })
+pub next-row : {w : ℕ} {at : Pixel} → PixelPlaced w at → 1 ≤ w → at .x + 1 ≡ w → PixelPlaced w (record { p = at .p + 1; x = 0; y = at .y + 1 })
 next-row {w} {at} z some last =
     let rows : (at .y + 1) * w ≡ w + at .y * w = rw add-one (omega (arith, suc-mul (at .y) w)) in
     placed w 0 (at .y + 1) (at .p + 1) some (omega (arith, placed-index z))
 
 -- after any other the next of its row
-pub next-column : {w : ℕ} {at : Pixel} → Placed w at → 1 ≤ w → (at .x + 1 ≡ w → ⊥) → Placed w (record { p = at .p + 1; x = at .x + 1; y = at .y })
+pub next-column : {w : ℕ} {at : Pixel} → PixelPlaced w at → 1 ≤ w → (at .x + 1 ≡ w → ⊥) → PixelPlaced w (record { p = at .p + 1; x = at .x + 1; y = at .y })
 next-column {w} {at} z some inner =
     placed w (at .x + 1) (at .y) (at .p + 1) (omega (arith, placed-column z some, inner)) (omega (arith, placed-index z))
 
@@ -87,7 +88,7 @@ module _ (q : Check) (left right : List ℕ) (x y : ℕ) (v : Float) where
   own-none k e l = rw (← e, le-ltb k (q .search .count) l)
 
 -- what pixel p of a map is asked is what the cell at its column and row is asked
-pub asked-at : (q : Check) (left right : List ℕ) (question : Question) (map : List Float) {at : Pixel} → Placed (q .w) at
+pub asked-at : (q : Check) (left right : List ℕ) (question : Question) (map : List Float) {at : Pixel} → PixelPlaced (q .w) at
     → not (finite (getD map (at .p) nan)) || holds q left right (at .x) (at .y) question (getD map (at .p) nan) ≡ holdsAt q left right question map (at .p)
 unfolding holdsAt
 asked-at q left right question map z = rw (z .column, z .row)

@@ -13,7 +13,7 @@ use Rattle.choices.specs.Subpixel.{disparity}
 use Rattle.vendor.specs.declared.Check.{Check}
 use Rattle.vendor.specs.Verdict.{costAt, beats, stands, isChoice}
 use Rattle.vendor.specs.Meaning.{Choice}
-use Rattle.vendor.proofs.Firsts.{some-here, some-of}
+use Rattle.lists.proofs.Firsts.{some-here, some-of}
 
 -- ---- a raw cost that stands among those of all indices
 -- it is not blank, isn't below the least correlation, and no other is above it

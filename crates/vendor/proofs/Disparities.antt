@@ -17,7 +17,7 @@ use Rattle.lists.proofs.Tests.{and-both}
 use Rattle.choices.specs.declared.subpixel.Search.{Search}
 use Rattle.choices.specs.Subpixel.{disparity}
 use Rattle.choices.proofs.Signed.{sum-natAbs, float-of}
-use Rattle.vendor.specs.Ready.{Searched}
+use Rattle.vendor.specs.Inner.{Searched}
 
 -- ---- equal numbers cast to equal integers
 
@@ -60,11 +60,11 @@ cast-same h (fin s m k) (fin t n d) e =
 -- ---- a disparity
 
 -- first + k is small
-small : (s : Search) → Searched s → (k : ℕ) → k < s .count → natAbs (s .first +ℤ pos k) ≤ 8192
-small s z k l = sum-natAbs (s .first) k 8192 (omega (arith, z .few, z .close))
+small : (s : Search) → Searched s → (k : ℕ) → k < s .count → natAbs (s .first +ℤ pos k) ≤ 2 ^ 24
+small s z k l = sum-natAbs (s .first) k (2 ^ 24) (omega (arith, z .few, z .close))
 
 -- a small whole number as a float passes the cast's test, and casts back
-whole-back : (z : ℤ) → natAbs z ≤ 8192 → T (inSigned binary32 31 (ofInt binary32 z)) × (toSigned 31 (ofInt binary32 z) ≡ z)
+whole-back : (z : ℤ) → natAbs z ≤ 2 ^ 24 → T (inSigned binary32 31 (ofInt binary32 z)) × (toSigned 31 (ofInt binary32 z) ≡ z)
 whole-back (pos n) l = positive-back binary32 31 n (float-of (pos n) l) (omega arith)
 whole-back (negsuc n) l = negative-back binary32 31 n (float-of (negsuc n) l) (omega arith)
 

@@ -1,5 +1,4 @@
 -- Lemmas that belong to no one function, and the theorems.
-pub mod Firsts
 pub mod Asking
 pub mod Products
 pub mod Targets
@@ -10,3 +9,4 @@ pub mod Outcomes
 pub mod Choices
 pub mod Meaning
 pub mod Own
+pub mod Calls

@@ -17,7 +17,7 @@ use Rattle.vendor.specs.declared.Check.{Check}
 use Rattle.vendor.specs.declared.Verdict.the-variants.{Yes, No}
 use Rattle.vendor.specs.Verdict.{isChoice, passes, firstBad, verdictOf}
 use Rattle.vendor.specs.Meaning.{Good}
-use Rattle.vendor.proofs.Firsts.{Fails, first-here, first-or, all-first}
+use Rattle.lists.proofs.Firsts.{Fails, first-here, first-or, all-first}
 use Rattle.vendor.proofs.Choices.{choice-of, of-choice}
 
 -- a yes is no no

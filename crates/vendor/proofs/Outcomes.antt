@@ -1,28 +1,34 @@
 -- The outcome of a check. Assumes nothing.
 use Prim.Native.Nat.{ℕ, zero, suc, _*_, _/_, _%_, _≤_, _<_}
 use mathlib.Core.Path.{_≡_, refl, sym, ap, ap₂, _∙_}
-use mathlib.Core.Bool.{cond, _&&_}
+use mathlib.Core.Bool.{Bool, true, false, cond, _&&_}
 use mathlib.Core.List.{List}
 use borrow.Author.Tests.{eq-eqb, ne-eqb, lt-ltb, le-ltb, eqb-true, ltb-false, not-false}
 use lib.Dec.{eqb, lit<}
 use lib.Ieee.{Float}
 use lib.ListN.{length}
-use Rattle.lists.specs.Lists.{cleared}
+use Rattle.lists.specs.Lists.{allBelow, cleared}
 use Rattle.lists.proofs.Tests.{and-both}
 use Rattle.options.specs.declared.BlockMatchOptions.{BlockMatchOptions}
-use Rattle.refusals.specs.declared.Call.{Call}
-use Rattle.refusals.specs.Refusals.{firstOf, pairRows, area, wholeCells}
-use Rattle.refusals.specs.Accepted.{Sizes}
-use Rattle.refusals.proofs.Rows.{by-first, by-rest, none-of, pair-numbered, passed, sizes}
-use Rattle.costs.specs.Outcome.{roomAfter}
+use Rattle.calls.specs.declared.Call.{Call}
+use Rattle.refusals.specs.Answered.{firstOf}
+use Rattle.calls.specs.Refusals.{pairRows, area, wholeCells}
+use Rattle.calls.specs.Accepted.{Sizes}
+use Rattle.refusals.specs.Answered.{Numbered, ByPlace}
+use Rattle.refusals.specs.Given.{numberBack}
+use Rattle.refusals.proofs.Answering.{answers-by-place}
+use Rattle.refusals.proofs.Groups.{by-first, by-second, none-of-both, both-numbered, passed}
+use Rattle.refusals.proofs.Outcomes.{same-outcome, number-back}
+use Rattle.calls.proofs.Rows.{pair-numbered, sizes}
 use Rattle.costs.proofs.Outcomes.{frame}
 use Rattle.vendor.specs.declared.Check.{Check}
 use Rattle.vendor.specs.declared.Verdict.{Verdict}
 use Rattle.vendor.specs.declared.Verdict.the-variants.{Yes, No, Refused}
 use Rattle.vendor.specs.Verdict.{checkOf, passes, firstBad, verdictOf}
-use Rattle.vendor.specs.Outcome.{vendorCall, mapRows, vendorRefusal, answerOf, CheckDone}
-use Rattle.vendor.specs.Ready.{Lent}
-use Rattle.vendor.proofs.Firsts.{all-first}
+use Rattle.vendor.specs.Outcome.{vendorCall, mapRows, checkRows, vendorRefusal, CheckOutcome}
+use Rattle.vendor.specs.Given.{verdictGiven}
+use Rattle.vendor.specs.Inner.{Lent}
+use Rattle.lists.proofs.Firsts.{all-first}
 
 -- ---- the refusal of a map of n cells, w wide and h high
 module _ (q : Call) (w h n : ℕ) where
@@ -35,7 +41,7 @@ module _ (q : Call) (w h n : ℕ) where
     -- where none of them applies the map and the room decide
     by-map : (m : ℕ) → m ≡ firstOf (mapRows q w h n) → m ≡ vendorRefusal q w h n
     unfolding vendorRefusal
-    by-map m e = e ∙ sym (by-rest (pairRows q) (mapRows q w h n) (pair-numbered q) p)
+    by-map = by-second (pairRows q) (mapRows q w h n) (pair-numbered q) p
 
     -- another width
     pub not-wide : (w ≡ q .«left_w» → ⊥) → 23 ≡ vendorRefusal q w h n
@@ -84,7 +90,7 @@ pub record Taken (q : Call) (w h n : ℕ) : Type 0 where
 pub taken : (q : Call) (w h n : ℕ) → vendorRefusal q w h n ≡ 0 → Taken q w h n
 unfolding vendorRefusal mapRows firstOf
 taken q w h n e =
-    let groups = none-of (pairRows q) (mapRows q w h n) (pair-numbered q) e in
+    let groups = none-of-both (pairRows q) (mapRows q w h n) (pair-numbered q) e in
     let map = passed 23 (lit< tt) _ _ (groups .1) in
     let room = passed 12 (lit< tt) _ _ (map .1) in
     let full = and-both (eqb w (q .«left_w») && eqb h (q .«left_h»)) (eqb n (area q)) (not-false _ (map .0)) in
@@ -117,24 +123,39 @@ judged q left right map bad e = rw (e, all-first (q .w * q .h) (passes q left ri
 
 module _ (q : Call) (o : BlockMatchOptions) (left right : List ℕ) (w h : ℕ) (map : List Float) (room : List ℕ) where
   -- a refused check leaves the room as it was
-  pub refused : (n : ℕ) → n ≡ vendorRefusal q w h (length map) → (n ≡ 0 → ⊥) → CheckDone (Refused n) q o left right w h map room room
-  unfolding answerOf roomAfter
-  refused zero e some = absurd (some refl)
-  refused (suc n) e some = record {
-    answers = ap (λ m. answerOf m (q .«left_w») (q .«left_h») o left right map) e;
-    rooms = ap (λ m. roomAfter m q room) e;
-  }
+  pub refusing : (n : ℕ) → n ≡ vendorRefusal q w h (length map) → (n ≡ 0 → ⊥) → CheckOutcome (Refused n) q o left right w h map room room
+  refusing zero e some = absurd (some refl)
+  refusing (suc n) e some = record { answers = rw (← e); rooms = rw (← e) }
 
   -- one that is not has answered with the verdict and cleared the room
   pub made : (answer : Verdict) (room′ : List ℕ) → vendorRefusal q w h (length map) ≡ 0 → answer ≡ verdictOf (checkOf (q .«left_w») (q .«left_h») o) left right map
-      → room′ ≡ cleared 0 (wholeCells q) room → CheckDone answer q o left right w h map room room′
-  unfolding answerOf roomAfter
-  made answer room′ e a m = record {
-    answers = rw e a;
-    rooms = rw e m;
-  }
+      → room′ ≡ cleared 0 (wholeCells q) room → CheckOutcome answer q o left right w h map room room′
+  made answer room′ e a m = record { answers = rw e a; rooms = rw e m }
 
   -- THEOREM: the statement leaves one outcome
-  pub one-outcome : (a₁ a₂ : Verdict) (room₁ room₂ : List ℕ) → CheckDone a₁ q o left right w h map room room₁ → CheckDone a₂ q o left right w h map room room₂
+  pub one-outcome : (a₁ a₂ : Verdict) (room₁ room₂ : List ℕ) → CheckOutcome a₁ q o left right w h map room room₁ → CheckOutcome a₂ q o left right w h map room room₂
       → (a₁ ≡ a₂) × (room₁ ≡ room₂)
-  one-outcome a₁ a₂ room₁ room₂ x y = (x .answers ∙ sym (y .answers), x .rooms ∙ sym (y .rooms))
+  one-outcome a₁ a₂ room₁ room₂ x y = (same-outcome (x .answers) (y .answers), same-outcome (x .rooms) (y .rooms))
+
+-- ---- the order of the refusals
+pub rows-numbered : (q : Call) (w h n : ℕ) → Numbered (checkRows q w h n)
+unfolding mapRows
+rows-numbered q w h n = both-numbered (pairRows q) (mapRows q w h n) (pair-numbered q) (lit< tt, (lit< tt, tt))
+
+-- a verdict is no refusal
+verdict-given : (q : Check) (left right : List ℕ) (map : List Float) → numberBack (verdictGiven (verdictOf q left right map)) ≡ 0
+unfolding verdictOf
+verdict-given q left right map = go (allBelow (q .w * q .h) (passes q left right map))
+  where
+    go : (t : Bool) → numberBack (verdictGiven (cond t Yes (No (firstBad q left right map % q .w) (firstBad q left right map / q .w)))) ≡ 0
+    go true = refl
+    go false = refl
+
+-- THEOREM: the answer is by the rows' place: n exactly when its row applies and no row before it does, a verdict exactly when none applies
+pub check-by-place : (q : Call) (o : BlockMatchOptions) (left right : List ℕ) (w h : ℕ) (map : List Float) (room room′ : List ℕ) (answer : Verdict)
+    → CheckOutcome answer q o left right w h map room room′ → ByPlace (checkRows q w h (length map)) (numberBack (verdictGiven answer))
+unfolding vendorRefusal
+check-by-place q o left right w h map room room′ answer x =
+    answers-by-place (rows-numbered q w h (length map))
+    (ap (λ v. numberBack (verdictGiven v)) (x .answers)
+    ∙ number-back verdictGiven Refused (verdictOf (checkOf (q .«left_w») (q .«left_h») o) left right map) (λ k. refl) (verdict-given (checkOf (q .«left_w») (q .«left_h») o) left right map) (vendorRefusal q w h (length map)))

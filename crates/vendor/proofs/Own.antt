@@ -9,15 +9,18 @@ use lib.Ieee.{Float, nan, lt}
 use lib.Ieee.Scale.{finite}
 use Rattle.lists.proofs.Lists.{listOf-length, listOf-at}
 use Rattle.lists.proofs.Rows.{mul-pos-left, row-below}
+use Rattle.options.specs.declared.Mode.the-variants.{Block}
 use Rattle.options.specs.declared.BlockMatchOptions.{BlockMatchOptions}
 use Rattle.options.specs.declared.RawCost.{RawCost}
 use Rattle.options.specs.declared.RawCost.the-variants.{Blank, Corr}
 use Rattle.options.specs.declared.Side.the-variants.{Left, Right}
 use Rattle.options.specs.Costs.{stored, rawOf, InRange}
 use Rattle.options.proofs.Stored.{stored-back}
-use Rattle.refusals.specs.Refusals.{firstOf, pictureRows, searchRows, pairRows, wholeCells}
-use Rattle.refusals.specs.Accepted.{Sizes}
-use Rattle.refusals.proofs.Rows.{none, accepted}
+use Rattle.refusals.specs.Answered.{firstOf}
+use Rattle.refusals.specs.Outcome.{answerFor}
+use Rattle.calls.specs.Refusals.{pictureRows, searchRows, pairRows, wholeCells}
+use Rattle.calls.specs.Accepted.{Sizes}
+use Rattle.calls.proofs.Rows.{none, accepted}
 use Rattle.costs.proofs.Laws.{raw-cost-bound, volume-cell}
 use Rattle.maps.specs.declared.Cell.the-variants.{Mark, At}
 use Rattle.maps.specs.Cells.{inBuffer}
@@ -25,20 +28,20 @@ use Rattle.choices.specs.declared.block.Best.{Best}
 use Rattle.choices.specs.declared.block.Best.the-variants.{Nothing, Found}
 use Rattle.choices.specs.declared.block.Gates.{Gates}
 use Rattle.choices.specs.declared.subpixel.Search.{Search}
-use Rattle.choices.specs.Frame.{inner}
+use Rattle.options.specs.Frame.{inner}
 use Rattle.choices.specs.Block.{costsOf, bestOf, competitor, tooClose, gated, blockChoice, blockCell}
 use Rattle.choices.specs.LeftRight.{confirms, testedCell, leftRight}
 use Rattle.choices.specs.Subpixel.{disparity, placed}
 use Rattle.choices.specs.Extremes.{AllInRange, Finds}
 use Rattle.choices.proofs.Largest.{best-largest}
 use Rattle.matching.specs.Maps.{half, countOf, searchOf, gatesOf, volumeOf, sideMap, mapOf}
-use Rattle.matching.specs.Outcome.{matchCall, outAfter, MatchDone}
+use Rattle.matching.specs.Outcome.{matchCall, MatchOutcome}
 use Rattle.matching.specs.Accepted.{Levels, AcceptedPair}
 use Rattle.matching.proofs.SideMaps.{cellFrom, side-length, side-at}
 use Rattle.vendor.specs.declared.Verdict.{Verdict}
-use Rattle.vendor.specs.declared.Verdict.the-variants.{Yes}
+use Rattle.vendor.specs.declared.Verdict.the-variants.{Yes, Refused}
 use Rattle.vendor.specs.Verdict.{checkOf, costAt, verdictOf}
-use Rattle.vendor.specs.Outcome.{vendorCall, answerOf, CheckDone}
+use Rattle.vendor.specs.Outcome.{vendorCall, CheckOutcome}
 use Rattle.vendor.specs.Meaning.{Choice, Good}
 use Rattle.vendor.proofs.Disparities.{disparity-self}
 use Rattle.vendor.proofs.Outcomes.{nothing}
@@ -115,7 +118,7 @@ tested-valid w limit right p d = go (finite d && not (confirms w limit right p d
     go true v = absurd (no-number v)
     go false v = refl
 
-module _ (w h : ℕ) (o : BlockMatchOptions) (block : o .«semi_global» ≡ false) (left right : List ℕ) where
+module _ (w h : ℕ) (o : BlockMatchOptions) (block : o .mode ≡ Block) (left right : List ℕ) where
   -- the left map before the test, and the right one
   abbrev leftMap : List Float
   leftMap = sideMap w h o (volumeOf w h o Left left right)
@@ -197,14 +200,14 @@ module _ {w h : ℕ} {o : BlockMatchOptions} {left right : List ℕ} (a : Accept
       }
 
   -- every valid cell is one
-  own-good : o .«semi_global» ≡ false → o .subpixel ≡ false → (p : ℕ) → p < w * h → Good (checkOf w h o) left right (mapOf w h o left right) p
+  own-good : o .mode ≡ Block → o .subpixel ≡ false → (p : ℕ) → p < w * h → Good (checkOf w h o) left right (mapOf w h o left right) p
   own-good block whole p l valid =
       let is = map-at w h o block left right p l valid in
       taken-choice p l _
       (rw is (cell-taken w h (half o) (searchOf o) (gatesOf o) (volumeOf w h o Left left right) p whole (costs-range p l) (rw is at valid)))
 
 -- THEOREM: with sub-pixel off the block map of every accepted pair passes, with every option, left-right on or off
-pub own-passes : (w h : ℕ) (o : BlockMatchOptions) (left right : List ℕ) → AcceptedPair w h o left right → o .«semi_global» ≡ false → o .subpixel ≡ false
+pub own-passes : (w h : ℕ) (o : BlockMatchOptions) (left right : List ℕ) → AcceptedPair w h o left right → o .mode ≡ Block → o .subpixel ≡ false
     → verdictOf (checkOf w h o) left right (mapOf w h o left right) ≡ Yes
 own-passes w h o left right a block whole = means-yes (checkOf w h o) left right (mapOf w h o left right) (own-good a block whole)
 
@@ -217,12 +220,11 @@ same-rows left right w h o out whole float room e = e
 
 -- THEOREM: of the calls: a map that a match has made is answered with yes, whatever the room that is lent for it holds
 pub own-call : (w h : ℕ) (o : BlockMatchOptions) (left right : List ℕ) (out out′ : List Float) (whole whole′ : List ℕ) (float float′ : List Float)
-    → Levels left → Levels right → o .«semi_global» ≡ false → o .subpixel ≡ false
-    → MatchDone 0 (matchCall left w h right w h o (length out) (length whole) (length float)) o left right out out′ whole whole′ float float′
+    → Levels left → Levels right → o .mode ≡ Block → o .subpixel ≡ false
+    → MatchOutcome 0 (matchCall left w h right w h o (length out) (length whole) (length float)) o left right out out′ whole whole′ float float′
     → (answer : Verdict) (room room′ : List ℕ) → wholeCells (vendorCall left w h right w h o (length room)) ≤ length room
-    → CheckDone answer (vendorCall left w h right w h o (length room)) o left right w h out′ room room′
+    → CheckOutcome answer (vendorCall left w h right w h o (length room)) o left right w h out′ room room′
     → answer ≡ Yes
-unfolding outAfter answerOf
 own-call w h o left right out out′ whole whole′ float float′ ll lr block noSub done answer room room′ long check =
     let a : AcceptedPair w h o left right = record {
       out = length out;
@@ -237,6 +239,6 @@ own-call w h o left right out out′ whole whole′ float float′ ll lr block n
     let pair = none (matchCall left w h right w h o (length out) (length whole) (length float)) (sym (done .answer)) .pair in
     let zero = sym (nothing (vendorCall left w h right w h o (length room)) w h (length out′) (same-rows left right w h o _ _ _ (length room) pair) refl refl size long) in
     check .answers
-    ∙ ap (λ n. answerOf n w h o left right out′) zero
+    ∙ ap (λ n. answerFor n Refused (verdictOf (checkOf w h o) left right out′)) zero
     ∙ ap (verdictOf (checkOf w h o) left right) is
     ∙ own-passes w h o left right a block noSub

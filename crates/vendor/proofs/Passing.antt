@@ -10,7 +10,7 @@ use lib.Dec.{T}
 use lib.ListN.{getD}
 use lib.Ieee.{Float, nan, inf, fin, lt, le, eq}
 use lib.Ieee.Scale.{finite}
-use Rattle.lists.specs.Lists.{allBelow}
+use Rattle.lists.specs.Lists.{allBelow, someBelow, firstNot}
 use Rattle.lists.proofs.Tests.{all-same, of-all}
 use Rattle.numbers.proofs.FloatOrder.{lt-under, le-not}
 use Rattle.options.specs.declared.RawCost.{RawCost}
@@ -24,10 +24,10 @@ use Rattle.choices.specs.Subpixel.{disparity}
 use Rattle.choices.proofs.Largest.{within-finite}
 use Rattle.vendor.specs.declared.Check.{Check}
 use Rattle.vendor.specs.declared.cells.Question.the-variants.{Fit, Unbeaten}
-use Rattle.vendor.specs.Verdict.{someBelow, firstNot, costAt, beats, stands, isChoice, passes}
+use Rattle.vendor.specs.Verdict.{costAt, beats, stands, isChoice, passes}
 use Rattle.vendor.specs.Tests.{indexNamed, ownCost, isFit, isUnbeaten, holds, holdsAt}
-use Rattle.vendor.specs.Ready.{Searched, Sized}
-use Rattle.vendor.proofs.Firsts.{Fails, first-or, first-none, some-here, some-none}
+use Rattle.vendor.specs.Inner.{Searched, CheckSizes}
+use Rattle.lists.proofs.Firsts.{Fails, first-or, first-none, some-here, some-none}
 use Rattle.vendor.proofs.Disparities.{disparity-one}
 
 -- ---- the order of floats
@@ -96,7 +96,7 @@ module _ (search : Search) (v : Float) (good : ℕ → Bool) where
   none-named : ((k : ℕ) → k < search .count → not (eq v (disparity search k)) ≡ true) → someBelow (search .count) (named search v good) ≡ false
   none-named h = some-none (search .count) (named search v good) (λ k l. ap (λ t. t && good k) (not-true (eq v (disparity search k)) (h k l)))
 
-module _ (q : Check) (left right : List ℕ) (z : Sized q) (pl : Picture (q .w) (q .h) left) (pr : Picture (q .w) (q .h) right) (x y : ℕ) (v : Float) where
+module _ (q : Check) (left right : List ℕ) (z : CheckSizes q) (pl : Picture (q .w) (q .h) left) (pr : Picture (q .w) (q .h) right) (x y : ℕ) (v : Float) where
   -- the test of a number's own raw cost says whether the number is a choice
   own-choice : tested (q .least) (q .search .count) (costAt q left right x y) (ownCost q left right x y v) ≡ isChoice q left right x y v
   unfolding ownCost indexNamed
@@ -124,7 +124,7 @@ or-each true a n b = refl
 or-each false a n b = of-all n _ (λ k l. refl)
 
 -- its own raw cost is fit, and that of no index beats it
-pub passes-holds : (q : Check) (left right : List ℕ) → Sized q → Picture (q .w) (q .h) left → Picture (q .w) (q .h) right → (map : List Float) (p : ℕ)
+pub passes-holds : (q : Check) (left right : List ℕ) → CheckSizes q → Picture (q .w) (q .h) left → Picture (q .w) (q .h) right → (map : List Float) (p : ℕ)
     → holdsAt q left right Fit map p && allBelow (q .search .count) (λ k. holdsAt q left right (Unbeaten k) map p) ≡ passes q left right map p
 unfolding holdsAt passes
 passes-holds q left right z pl pr map p =

@@ -18,7 +18,7 @@ use Rattle.windows.specs.Parts.{productIn}
 use Rattle.windows.proofs.Tables.{Spots, spots, level-small}
 use Rattle.windows.proofs.Crossed.{lent}
 use Rattle.costs.proofs.Spans.{Apart, apart-says, apart-is}
-use Rattle.vendor.specs.Ready.{TwoWindows}
+use Rattle.vendor.specs.Inner.{TwoWindows}
 
 -- a part of n cells that is lent has n cells, and its cell i is the list's i cells further on
 part-length : (k n : ℕ) (l : List ℕ) → k + n ≤ length l → length (lent k n l) ≡ n

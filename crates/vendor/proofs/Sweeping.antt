@@ -11,25 +11,25 @@ use lib.IntN.{ℤ}
 use lib.Ieee.{Float}
 use lib.ListN.{length, take, drop, length-append, take-append-drop}
 use lib.Seq.{take-at}
-use Rattle.lists.specs.Lists.{allBelow}
+use Rattle.lists.specs.Lists.{allBelow, firstNot}
 use Rattle.windows.specs.Table.{tableOf, crossAt}
 use Rattle.windows.specs.Window.{cells}
 use Rattle.windows.proofs.Tables.{length-table}
 use Rattle.costs.specs.Roots.{pictureTables}
-use Rattle.costs.specs.Rooms.{Frame, Picture, TablesOf, fiveParts, RoomOf}
+use Rattle.costs.specs.Rooms.{WindowFits, Picture, TablesOf, fiveParts, RoomOf}
 use Rattle.costs.proofs.Readings.{tables-of}
 use Rattle.costs.proofs.Volumes.{length-picture}
 use Rattle.vendor.specs.declared.Check.{Check}
 use Rattle.vendor.specs.declared.cells.Question.the-variants.{Fit, Unbeaten}
-use Rattle.vendor.specs.Verdict.{firstNot, firstBad}
+use Rattle.vendor.specs.Verdict.{firstBad}
 use Rattle.vendor.specs.Tests.{holdsAt}
-use Rattle.vendor.specs.Ready.{Sized}
-use Rattle.vendor.proofs.Firsts.{first-both, first-same, first-most}
+use Rattle.vendor.specs.Inner.{CheckSizes}
+use Rattle.lists.proofs.Firsts.{first-both, first-same, first-most}
 use Rattle.vendor.proofs.Passing.{passes-holds}
 
 -- ---- the room
 -- a room whose first cells are the two pictures' tables
-pub tables-taken : (w h r : ℕ) (a b room : List ℕ) → Frame w h r → Picture w h a → Picture w h b
+pub tables-taken : (w h r : ℕ) (a b room : List ℕ) → WindowFits w h r → Picture w h a → Picture w h b
     → take (4 * cells w h) room ≡ pictureTables w h r a ++ pictureTables w h r b → TablesOf room w h r a b
 tables-taken w h r a b room f pa pb is = record {
   rest = drop (4 * cells w h) room;
@@ -134,7 +134,7 @@ module _ {q : Check} {left right : List ℕ} {map : List Float} {room₀ room : 
   }
 
   -- after the last index every pixel before the limit passes
-  pub sweep-done : Sized q → Picture (q .w) (q .h) left → Picture (q .w) (q .h) right → q .search .count ≤ k → limit ≡ firstBad q left right map
+  pub sweep-done : CheckSizes q → Picture (q .w) (q .h) left → Picture (q .w) (q .h) right → q .search .count ≤ k → limit ≡ firstBad q left right map
   sweep-done z pl pr l =
       i .first
       ∙ ap (λ n. firstNot (q .w * q .h) (asked q left right map n)) (le-antisymm (i .within) l)

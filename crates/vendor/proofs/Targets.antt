@@ -4,7 +4,7 @@ use mathlib.Core.Path.{_≡_, refl, sym, ap, ap₂, _∙_, subst}
 use mathlib.Core.Bool.{Bool, true, false, cond, true≢false}
 use mathlib.Core.List.{List}
 use native.Mathlib.Omega.{arith}
-use borrow.Author.Tests.{leb-true, ltb-true, le-leb, lt-ltb}
+use borrow.Author.Tests.{ltb-true}
 use lib.IntN.{ℤ, pos, negsuc, natAbs, _+ℤ_}
 use lib.Signed.{ltZ}
 use mir.Syntax.{w32, w64}
@@ -12,19 +12,21 @@ use mir.Val.{SFits, toZ, ofZ}
 use mir.ValLaws.{toZ-ofZ, toZ-pos}
 use Rattle.lists.proofs.Sizes.{sum-size, small-fits}
 use Rattle.lists.proofs.Tests.{and-both}
+use Rattle.options.proofs.Frames.{says-within, within-says}
 use Rattle.options.specs.Limits.{countMost, firstMost, shiftMost}
 use Rattle.options.specs.declared.RawCost.the-variants.{Blank}
 use Rattle.options.specs.declared.Side.the-variants.{Left}
 use Rattle.windows.specs.Table.{crossAt}
 use Rattle.windows.specs.Window.{Inside, windowSum}
-use Rattle.costs.specs.Raw.{within, shiftOf, pairCost, rawCost}
-use Rattle.costs.specs.Rooms.{Ready, Pair, Summed}
+use Rattle.options.specs.Frame.{within, inFrame}
+use Rattle.costs.specs.Raw.{shiftOf, pairCost, rawCost}
+use Rattle.costs.specs.Rooms.{RoomReady, Pair, WindowsSummed}
 use Rattle.costs.proofs.Frames.{Found, target-found, blank-unless}
 use Rattle.costs.proofs.Signed.{shift-most}
 use Rattle.vendor.specs.declared.Check.{Check}
 use Rattle.vendor.specs.Verdict.{costAt}
 use Rattle.vendor.specs.Tests.{shiftAt, columnIn, targetOf}
-use Rattle.vendor.specs.Ready.{Sized, TwoWindows, Tabled}
+use Rattle.vendor.specs.Inner.{CheckSizes, TwoWindows, Tabled}
 
 -- ---- the tests, one after the other
 
@@ -47,17 +49,13 @@ module _ (w r : ℕ) where
 
 -- a pixel outside the inner frame, and one within it
 module _ (q : Check) (x y k : ℕ) where
-  pub off-row : within (q .w) (q .r) x ≡ false → q .w ≡ targetOf q x y k
+  pub off-frame : inFrame (q .w) (q .h) (q .r) x y ≡ false → q .w ≡ targetOf q x y k
   unfolding targetOf
-  off-row e = rw e
+  off-frame e = rw e
 
-  pub off-column : within (q .w) (q .r) x ≡ true → within (q .h) (q .r) y ≡ false → q .w ≡ targetOf q x y k
+  pub on-frame : inFrame (q .w) (q .h) (q .r) x y ≡ true → columnIn (q .w) (q .r) (pos x +ℤ shiftAt q k) ≡ targetOf q x y k
   unfolding targetOf
-  off-column e f = rw (e, f)
-
-  pub on-frame : within (q .w) (q .r) x ≡ true → within (q .h) (q .r) y ≡ true → columnIn (q .w) (q .r) (pos x +ℤ shiftAt q k) ≡ targetOf q x y k
-  unfolding targetOf
-  on-frame e f = rw (e, f)
+  on-frame e = rw e
 
 -- ---- the column as it is worked out, in 64 bits
 
@@ -66,7 +64,7 @@ first-fits : (z : ℤ) → natAbs z ≤ firstMost → SFits w32 z
 first-fits (pos n) l = record { sfits = omega arith }
 first-fits (negsuc n) l = record { sfits = omega arith }
 
-module _ (q : Check) (z : Sized q) where
+module _ (q : Check) (z : CheckSizes q) where
   -- the first disparity is read back from its bits
   first-read : toZ w32 (ofZ w32 (q .search .first)) ≡ q .search .first
   first-read = toZ-ofZ w32 (q .search .first) (first-fits (q .search .first) (z .searched .close))
@@ -115,13 +113,6 @@ pub record Aimed (q : Check) (x y k t : ℕ) : Type 0 where
   pub second : Inside (q .w) (q .h) t y (q .r)
   pub apart : pos x +ℤ shiftAt q k ≡ pos t
 
--- what a test says of a window
-within-says : (w r x : ℕ) → within w r x ≡ true → (r ≤ x) × (x + r < w)
-within-says w r x e = let b = and-both _ _ e in (leb-true r x (b .0), ltb-true (x + r) w (b .1))
-
-says-within : (w r x : ℕ) → r ≤ x → x + r < w → within w r x ≡ true
-says-within w r x l m = rw (le-leb r x l, lt-ltb (x + r) w m)
-
 -- a column that is one, as it is found
 module _ (w r : ℕ) where
   found-in : (z : ℤ) → (columnIn w r z ≡ w → ⊥) → Found w r z (columnIn w r z)
@@ -140,17 +131,17 @@ module _ (w r : ℕ) where
 module _ (q : Check) (x y k t : ℕ) (e : t ≡ targetOf q x y k) where
   -- a target column that is not the width is found
   pub aimed : (t ≡ q .w → ⊥) → Aimed q x y k t
-  aimed off = go (within (q .w) (q .r) x) refl (within (q .h) (q .r) y) refl
+  aimed off = go (inFrame (q .w) (q .h) (q .r) x y) refl
     where
-      go : (b : Bool) → within (q .w) (q .r) x ≡ b → (c : Bool) → within (q .h) (q .r) y ≡ c → Aimed q x y k t
-      go false i c j = absurd (off (e ∙ sym (off-row q x y k i)))
-      go true i false j = absurd (off (e ∙ sym (off-column q x y k i j)))
-      go true i true j =
-          let is : t ≡ columnIn (q .w) (q .r) (pos x +ℤ shiftAt q k) = e ∙ sym (on-frame q x y k i j) in
+      go : (b : Bool) → inFrame (q .w) (q .h) (q .r) x y ≡ b → Aimed q x y k t
+      go false i = absurd (off (e ∙ sym (off-frame q x y k i)))
+      go true i =
+          let is : t ≡ columnIn (q .w) (q .r) (pos x +ℤ shiftAt q k) = e ∙ sym (on-frame q x y k i) in
           let f : Found (q .w) (q .r) (pos x +ℤ shiftAt q k) t =
           subst (λ n. Found (q .w) (q .r) (pos x +ℤ shiftAt q k) n) (sym is) (found-in (q .w) (q .r) (pos x +ℤ shiftAt q k) (λ c. off (is ∙ c))) in
-          let here = within-says (q .w) (q .r) x i in
-          let row = within-says (q .h) (q .r) y j in
+          let both = and-both (within (q .w) (q .r) x) (within (q .h) (q .r) y) i in
+          let here = within-says (q .w) (q .r) x (both .0) in
+          let row = within-says (q .h) (q .r) y (both .1) in
           record {
             first = record { left = here .0; right = here .1; top = row .0; bottom = row .1 };
             second = record { left = f .left; right = f .right; top = row .0; bottom = row .1 };
@@ -165,7 +156,7 @@ module _ (q : Check) (x y k t : ℕ) (e : t ≡ targetOf q x y k) where
       (λ i x′ f.
       let is : x′ ≡ q .w =
       sym (in-found (q .w) (q .r) (pos x +ℤ shiftAt q k) x′ f)
-      ∙ on-frame q x y k (says-within (q .w) (q .r) x (i .left) (i .right)) (says-within (q .h) (q .r) y (i .top) (i .bottom))
+      ∙ on-frame q x y k (rw (says-within (q .w) (q .r) x (i .left) (i .right), says-within (q .h) (q .r) y (i .top) (i .bottom)))
       ∙ sym e
       ∙ none in
       omega (arith, f .right))
@@ -190,7 +181,7 @@ module _ {q : Check} {x y k t : ℕ} (a : Aimed q x y k t) {room left right : Li
   }
 
   -- the cost from their sum
-  pub aimed-summed : Tabled room q left right → (products : ℕ) → products ≡ windowSum (crossAt (q .w) left right (shiftAt q k)) x y (q .r) → Summed room (q .w) (q .h) (q .r) x t y products
+  pub aimed-summed : Tabled room q left right → (products : ℕ) → products ≡ windowSum (crossAt (q .w) left right (shiftAt q k)) x y (q .r) → WindowsSummed room (q .w) (q .h) (q .r) x t y products
   aimed-summed z products e = record {
     s = shiftAt q k;
     a = left;
@@ -203,7 +194,7 @@ module _ {q : Check} {x y k t : ℕ} (a : Aimed q x y k t) {room left right : Li
   }
 
 -- the cost from the products' table
-pub aimed-pair : {q : Check} {x y k t : ℕ} {room : List ℕ} → Aimed q x y k t → Ready room (q .w) (q .h) (q .r) (shiftAt q k) → Pair room (q .w) (q .h) (q .r) x t y
+pub aimed-pair : {q : Check} {x y k t : ℕ} {room : List ℕ} → Aimed q x y k t → RoomReady room (q .w) (q .h) (q .r) (shiftAt q k) → Pair room (q .w) (q .h) (q .r) x t y
 aimed-pair {q} {k = k} a z = record {
   s = shiftAt q k;
   a = z .a;

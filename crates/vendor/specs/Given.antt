@@ -1,6 +1,6 @@
 -- What a check's answer gives back. Definitions only.
 use Prim.Native.Nat.{ℕ}
-use Rattle.lists.specs.Steps.{Or, is, refused}
+use Rattle.refusals.specs.Steps.{Or, is, refused}
 use Rattle.vendor.specs.declared.Verdict.{Verdict}
 use Rattle.vendor.specs.declared.Verdict.the-variants as verdict
 

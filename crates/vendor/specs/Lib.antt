@@ -4,4 +4,4 @@ pub mod Outcome
 pub mod Given
 pub mod Meaning
 pub mod Tests
-pub mod Ready
+pub mod Inner

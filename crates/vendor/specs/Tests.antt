@@ -10,13 +10,15 @@ use lib.Ieee.Scale.{finite}
 use Rattle.options.specs.declared.RawCost.{RawCost}
 use Rattle.options.specs.declared.RawCost.the-variants.{Blank, Corr}
 use Rattle.options.specs.declared.Side.the-variants.{Left}
-use Rattle.costs.specs.Raw.{within, inFrame, shiftOf}
+use Rattle.options.specs.Frame.{within, inFrame}
+use Rattle.costs.specs.Raw.{shiftOf}
 use Rattle.choices.specs.declared.subpixel.Search.{Search}
 use Rattle.choices.specs.Subpixel.{disparity}
 use Rattle.vendor.specs.declared.Check.{Check}
 use Rattle.vendor.specs.declared.cells.Question.{Question}
 use Rattle.vendor.specs.declared.cells.Question.the-variants.{Fit, Unbeaten}
-use Rattle.vendor.specs.Verdict.{firstNot, costAt}
+use Rattle.lists.specs.Lists.{firstNot}
+use Rattle.vendor.specs.Verdict.{costAt}
 
 -- how far right of x the target column lies with index k
 abbrev pub shiftAt : Check → ℕ → ℤ

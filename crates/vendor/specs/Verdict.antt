@@ -1,11 +1,11 @@
 -- A vendor's map beside the raw costs of its pair. Definitions only.
-use Prim.Native.Nat.{ℕ, zero, suc, _*_, _/_, _%_}
+use Prim.Native.Nat.{ℕ, _*_, _/_, _%_}
 use mathlib.Core.Bool.{Bool, false, cond, not, _&&_, _||_}
 use mathlib.Core.List.{List}
 use lib.ListN.{getD}
 use lib.Ieee.{Float, nan, eq, lt}
 use lib.Ieee.Scale.{finite}
-use Rattle.lists.specs.Lists.{allBelow}
+use Rattle.lists.specs.Lists.{allBelow, someBelow, firstNot}
 use Rattle.options.specs.declared.BlockMatchOptions.{BlockMatchOptions}
 use Rattle.options.specs.declared.RawCost.{RawCost}
 use Rattle.options.specs.declared.RawCost.the-variants.{Blank, Corr}
@@ -20,16 +20,6 @@ use Rattle.vendor.specs.declared.Verdict.the-variants.{Yes, No}
 -- what w by h pictures are checked by: half of the block's side, what is searched, and the least correlation; of the options no more is looked at
 abbrev pub checkOf : ℕ → ℕ → BlockMatchOptions → Check
 checkOf w h o = record { w = w; h = h; r = half o; search = searchOf o; least = o .«min_correlation» }
-
--- p holds of one of 0, 1, .., n - 1
-unfoldable pub someBelow : ℕ → (ℕ → Bool) → Bool
-someBelow zero p = false
-someBelow (suc n) p = someBelow n p || p n
-
--- the first of 0, 1, .., n - 1 of which p does not hold, and n where it holds of all
-unfoldable pub firstNot : ℕ → (ℕ → Bool) → ℕ
-firstNot zero p = 0
-firstNot (suc n) p = cond (allBelow (suc n) p) (suc n) (firstNot n p)
 
 -- the raw cost at (x, y) with index k, the left picture being the reference
 abbrev pub costAt : Check → List ℕ → List ℕ → ℕ → ℕ → ℕ → RawCost

@@ -1,13 +1,13 @@
 // The cells of a vendor's map, each against one raw cost at a time.
 ghost use mathlib.Core.Path.{_≡_};
 ghost use mathlib.Core.Bool.{not, _||_};
-ghost use Prim.Native.Nat.{_+_, _*_, _/_, _%_, _^_, _≤_, _<_};
+ghost use Prim.Native.Nat.{_+_, _*_, _^_, _≤_, _<_};
 ghost use lib.ListN.{length};
 ghost use lib.Ieee.Scale.{finite};
 ghost use Rattle.vendor.specs.declared.cells.Question.the-variants.{Unbeaten};
-ghost use Rattle.vendor.specs.Verdict.{firstNot};
+ghost use Rattle.lists.specs.Lists.{firstNot};
 ghost use Rattle.vendor.specs.Tests.{indexNamed, ownCost, isFit, holds, holdsAt};
-ghost use Rattle.vendor.specs.Ready.{Searched, Tabled, Asked, Placed};
+ghost use Rattle.vendor.specs.Inner.{Searched, Tabled, Asked, PixelPlaced};
 use crate::Check;
 use crate::cost::direct_cost;
 use crate::cost::tabled_cost;
@@ -32,8 +32,8 @@ pub struct Pixel {
 
 // The next pixel by rows.
 fn next_pixel(at: Pixel, w: usize) -> Pixel
-    requires { ⌜ Placed w at × (1 ≤ w) × (at .p + 1 < 2 ^ 64) ⌝ }
-    ensures { λ r. ⌜ (r .p ≡ at .p + 1) × Placed w r ⌝ }
+    requires { ⌜ PixelPlaced w at × (1 ≤ w) × (at .p + 1 < 2 ^ 64) ⌝ }
+    ensures { λ r. ⌜ (r .p ≡ at .p + 1) × PixelPlaced w r ⌝ }
 {
     if at.x + 1 == w {
         return Pixel {

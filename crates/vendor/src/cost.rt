@@ -1,7 +1,7 @@
 // One raw cost at a time: from the products' table of its index, or, where that is not there, from the products themselves.
 ghost use mathlib.Core.Path.{_≡_};
 ghost use mathlib.Core.List.{List};
-ghost use Prim.Native.Nat.{ℕ, _+_, _^_, _≤_, _<_};
+ghost use Prim.Native.Nat.{ℕ, _+_, _≤_, _<_};
 ghost use lib.IntN.{ℤ, pos, _+ℤ_};
 ghost use lib.ListN.{length};
 ghost use Rattle.lists.specs.Sums.{sumTo};
@@ -9,11 +9,10 @@ ghost use Rattle.options.specs.Limits.{sideMost};
 ghost use Rattle.windows.specs.Table.{crossAt};
 ghost use Rattle.windows.specs.Window.{windowSum};
 ghost use Rattle.windows.specs.Parts.{productIn};
-ghost use Rattle.costs.specs.Raw.{within};
-ghost use Rattle.costs.specs.Rooms.{RoomOf, Ready};
+ghost use Rattle.costs.specs.Rooms.{RoomOf, RoomReady};
 ghost use Rattle.vendor.specs.Verdict.{costAt};
 ghost use Rattle.vendor.specs.Tests.{shiftAt, targetOf};
-ghost use Rattle.vendor.specs.Ready.{Sized, TwoWindows, Tabled};
+ghost use Rattle.vendor.specs.Inner.{CheckSizes, TwoWindows, Tabled};
 use crate::Check;
 use costs::raw::pair_cost;
 use costs::raw::summed_cost;
@@ -21,6 +20,8 @@ use costs::volume::shift_at;
 use options::BlockMatchOptions;
 use options::RawCost;
 use options::Side;
+use options::is_inner;
+use options::is_within;
 use windows::product;
 
 // The products of two rows' levels, added.
@@ -60,23 +61,12 @@ fn window_products(
     sum
 }
 
-// Whether a window centred in column x lies within a row of w pixels.
-fn is_within(w: usize, r: usize, x: usize) -> bool
-    requires { ⌜ (x + r < 2 ^ 64) ⌝ }
-    ensures { λ t. ⌜ t ≡ within w r x ⌝ }
-{
-    if x < r { false } else { x + r < w }
-}
-
 // The target column of (x, y) with index k, and the width where a window leaves the picture.
 fn target_column(q: Check, x: usize, y: usize, k: usize) -> usize
-    requires { ⌜ Sized q × (x < q .w) × (y < q .h) × (k < q .search .count) ⌝ }
+    requires { ⌜ CheckSizes q × (x < q .w) × (y < q .h) × (k < q .search .count) ⌝ }
     ensures { λ t. ⌜ t ≡ targetOf q x y k ⌝ }
 {
-    if !is_within(q.w, q.r, x) {
-        return q.w;
-    }
-    if !is_within(q.h, q.r, y) {
+    if !is_inner(q.w, q.h, q.r, x, y) {
         return q.w;
     }
     let search = q.search;
@@ -115,7 +105,7 @@ pub fn direct_cost(
 
 // The same from the products' table of index k, which stands in the room.
 pub fn tabled_cost(room: &[u64], q: Check, x: usize, y: usize, k: usize) -> RawCost
-    requires { ⌜ Sized q × Ready (now room) (q .w) (q .h) (q .r) (shiftAt q k) × (x < q .w) × (y < q .h) × (k < q .search .count) ⌝ }
+    requires { ⌜ CheckSizes q × RoomReady (now room) (q .w) (q .h) (q .r) (shiftAt q k) × (x < q .w) × (y < q .h) × (k < q .search .count) ⌝ }
     ensures { λ c. ⌜ ((left right : List ℕ) → RoomOf (now (room .entry)) (q .w) (q .h) (q .r) (shiftAt q k) left right → c ≡ costAt q left right x y k) ⌝ }
 {
     let other = target_column(q, x, y, k);

@@ -8,11 +8,13 @@ ghost use lib.Dec.{eqb};
 ghost use lib.ListN.{length, drop};
 ghost use Rattle.lists.specs.Lists.{cleared};
 ghost use Rattle.windows.specs.Window.{cells};
-ghost use Rattle.matching.specs.Fit.{Counted};
+ghost use Rattle.matching.specs.Inner.{CountFits};
 ghost use Rattle.vendor.specs.declared.Verdict.the-variants.{Yes, No};
 ghost use Rattle.vendor.specs.Verdict.{checkOf, firstBad};
-ghost use Rattle.vendor.specs.Outcome.{vendorCall, vendorRefusal, CheckDone};
-ghost use Rattle.vendor.specs.Ready.{Tabled, Lent};
+ghost use Rattle.vendor.specs.Outcome.{vendorCall, vendorRefusal, CheckOutcome};
+ghost use Rattle.vendor.specs.Inner.{Tabled, Lent};
+use calls::Call;
+use calls::pair_refusal;
 use cells::Question;
 use cells::first_failing;
 use choices::subpixel::Search;
@@ -23,8 +25,6 @@ use lists::clear_u64;
 use matching::block::search_of;
 use options::BlockMatchOptions;
 use options::Side;
-use refusals::Call;
-use refusals::pair_refusal;
 use windows::fill_cross;
 
 mod cells;
@@ -119,7 +119,7 @@ fn vendor_refusal(call: Call, map_w: usize, map_h: usize, map_cells: usize) -> u
 
 // What the maps of w by h pictures are checked by.
 fn check_of(w: usize, h: usize, opts: BlockMatchOptions) -> Check
-    requires { ⌜ Counted opts ⌝ }
+    requires { ⌜ CountFits opts ⌝ }
     ensures { λ q. ⌜ q ≡ checkOf w h opts ⌝ }
 {
     Check {
@@ -146,7 +146,7 @@ pub fn check_vendor(
     map_h: usize,
     room: &mut [u64],
 ) -> Verdict
-    ensures { λ v. ⌜ CheckDone v (vendorCall (now (left .entry)) «left_w» «left_h» (now (right .entry)) «right_w» «right_h» opts (length (now (room .entry)))) opts (now (left .entry)) (now (right .entry)) «map_w» «map_h» (now (map .entry)) (now (room .entry)) (now (room .exit)) ⌝ }
+    ensures { λ v. ⌜ CheckOutcome v (vendorCall (now (left .entry)) «left_w» «left_h» (now (right .entry)) «right_w» «right_h» opts (length (now (room .entry)))) opts (now (left .entry)) (now (right .entry)) «map_w» «map_h» (now (map .entry)) (now (room .entry)) (now (room .exit)) ⌝ }
 {
     let call = raw_call(
         left,

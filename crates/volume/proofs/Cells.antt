@@ -16,7 +16,7 @@ use Rattle.volume.specs.declared.metres.Spot.{Spot}
 use Rattle.volume.specs.Metres.{sizeMost, isNear}
 use Rattle.volume.specs.Rectangle.{above, goodCell, nearSite, multiple, goodSides, wideOf, longOf, columnsOf, rowsOf, cellsOf}
 use Rattle.volume.specs.Heights.{isBetween, isInside, inStrip, fallsIn, heightOf}
-use Rattle.volume.specs.Answers.{Near, cellAt, heightMost}
+use Rattle.volume.specs.Inner.{Near, cellAt, heightMost}
 use Rattle.volume.proofs.Differences.{above-size, part-above, part-below, between-above}
 
 -- ---- heights

@@ -12,7 +12,7 @@ use Rattle.volume.specs.declared.metres.Spot.{Spot}
 use Rattle.volume.specs.Metres.{goodPoints, spotsOf}
 use Rattle.volume.specs.Rectangle.{goodCell, goodSides, cellsOf}
 use Rattle.volume.specs.Heights.{isInside, fallsIn, insideCount, outsideCount}
-use Rattle.volume.specs.Answers.{cellAt}
+use Rattle.volume.specs.Inner.{cellAt}
 use Rattle.volume.proofs.Cells.{cell-below, falls-inside, falls-outside}
 use Rattle.volume.proofs.Spots.{good, spots-length}
 

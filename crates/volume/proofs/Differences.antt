@@ -16,7 +16,7 @@ use Rattle.lists.proofs.Sizes.{abs-neg, sum-size, small-fits}
 use Rattle.volume.specs.Metres.{sizeMost, isNear}
 use Rattle.volume.specs.Rectangle.{orZero, above}
 use Rattle.volume.specs.Heights.{isBetween}
-use Rattle.volume.specs.Answers.{Near}
+use Rattle.volume.specs.Inner.{Near}
 
 -- ---- comparisons
 

@@ -17,7 +17,7 @@ use Rattle.volume.specs.declared.site.Fall.the-variants as fall
 use Rattle.volume.specs.declared.metres.Spot.{Spot}
 use Rattle.volume.specs.Rectangle.{goodCell, goodSides, cellsOf}
 use Rattle.volume.specs.Heights.{isInside, fallsIn, heightOf, heightAt, isEmpty, insideCount}
-use Rattle.volume.specs.Answers.{cellAt, fallOf, levelAt, levelsOf, raisedAt}
+use Rattle.volume.specs.Inner.{cellAt, fallOf, levelOfCell, levelsOf, raisedAt}
 use Rattle.volume.proofs.Cells.{falls-inside, falls-outside}
 use Rattle.volume.proofs.Greatest.{empty-zero}
 
@@ -56,8 +56,8 @@ fallen-length s [] grid = refl
 fallen-length s (p ∷ ps) grid = fallen-length s ps (dropped s p grid) ∙ raised-length (fallOf s p) (heightOf s p) grid
 
 -- one point more: the level of its height, or what the others reach
-level-more : (s : Site) (p : Spot) (ps : List Spot) (c : ℕ) → levelAt s (p ∷ ps) c ≡ cond (fallsIn s c p) (max (suc (heightOf s p)) (levelAt s ps c)) (levelAt s ps c)
-unfolding levelAt isEmpty heightAt
+level-more : (s : Site) (p : Spot) (ps : List Spot) (c : ℕ) → levelOfCell s (p ∷ ps) c ≡ cond (fallsIn s c p) (max (suc (heightOf s p)) (levelOfCell s ps c)) (levelOfCell s ps c)
+unfolding levelOfCell isEmpty heightAt
 level-more s p ps c = go (fallsIn s c p) (isEmpty s ps c) (heightOf s p) (heightAt s ps c) (empty-zero s ps c)
   where
     go : (t e : Bool) (h m : ℕ) → (e ≡ true → m ≡ 0) → cond (not t && e) 0 (suc (cond t (max h m) m)) ≡ cond t (max (suc h) (cond e 0 (suc m))) (cond e 0 (suc m))
@@ -85,12 +85,12 @@ module _ (s : Site) (cell : goodCell s ≡ true) (sides : goodSides s ≡ true) 
       go true t = rw (t, falls-inside s cell sides p t c below) (one (eqb c (cellAt s p)) refl)
       go false t = rw (t, falls-outside s cell sides p t c below)
 
-  fallen-at : (ps : List Spot) (grid : List ℕ) (c : ℕ) → length grid ≡ cellsOf s → c < cellsOf s → getD (fallen s ps grid) c 0 ≡ max (getD grid c 0) (levelAt s ps c)
+  fallen-at : (ps : List Spot) (grid : List ℕ) (c : ℕ) → length grid ≡ cellsOf s → c < cellsOf s → getD (fallen s ps grid) c 0 ≡ max (getD grid c 0) (levelOfCell s ps c)
   unfolding fallen
-  fallen-at [] grid c long below = unfold levelAt isEmpty in sym (max-zero (getD grid c 0))
+  fallen-at [] grid c long below = unfold levelOfCell isEmpty in sym (max-zero (getD grid c 0))
   fallen-at (p ∷ ps) grid c long below =
       fallen-at ps (dropped s p grid) c (raised-length (fallOf s p) (heightOf s p) grid ∙ long) below
-      ∙ rw (dropped-at p grid c long below, level-more s p ps c) (go (fallsIn s c p) (getD grid c 0) (suc (heightOf s p)) (levelAt s ps c))
+      ∙ rw (dropped-at p grid c long below, level-more s p ps c) (go (fallsIn s c p) (getD grid c 0) (suc (heightOf s p)) (levelOfCell s ps c))
     where
       go : (t : Bool) (a b l : ℕ) → max (cond t (max a b) a) l ≡ max a (cond t (max b l) l)
       go true a b l = omega arith
@@ -102,11 +102,11 @@ module _ (s : Site) (cell : goodCell s ≡ true) (sides : goodSides s ≡ true) 
   fallen-levels ps =
       let zeros : length {A = ℕ} (replicate (cellsOf s) 0) ≡ cellsOf s = length-replicate (cellsOf s) 0 in
       let long : length (fallen s ps (replicate (cellsOf s) 0)) ≡ cellsOf s = fallen-length s ps (replicate (cellsOf s) 0) ∙ zeros in
-      ext-getD 0 _ _ (long ∙ sym (listOf-length (cellsOf s) (levelAt s ps)))
+      ext-getD 0 _ _ (long ∙ sym (listOf-length (cellsOf s) (levelOfCell s ps)))
       (λ i l.
       let below : i < cellsOf s = omega arith in
       fallen-at ps (replicate (cellsOf s) 0) i zeros below
-      ∙ rw (getD-replicate {A = ℕ} (cellsOf s) i 0 0 below, listOf-at (cellsOf s) (levelAt s ps) i 0 below) (zero-max (levelAt s ps i)))
+      ∙ rw (getD-replicate {A = ℕ} (cellsOf s) i 0 0 below, listOf-at (cellsOf s) (levelOfCell s ps) i 0 below) (zero-max (levelOfCell s ps i)))
 
 -- while the points fall: the first i of them have fallen, and so many of these lie inside
 pub record Falling (s : Site) (ps : List Spot) (grid : List ℕ) (inside i : ℕ) : Type 0 where

@@ -12,7 +12,7 @@ use Rattle.volume.specs.declared.site.Site.{Site}
 use Rattle.volume.specs.Metres.{goodCoordinate, allGood, goodPoints, spotOf, spotsOf}
 use Rattle.volume.specs.Rectangle.{wideOf, longOf, nearSite, cellsOf}
 use Rattle.volume.specs.Heights.{fallsIn, heightOf, heightAt, volumeOf}
-use Rattle.volume.specs.Answers.{Fit, heightMost}
+use Rattle.volume.specs.Inner.{SiteFits, heightMost}
 use Rattle.volume.proofs.Cells.{above-most, near-site, height-most}
 use Rattle.volume.proofs.Spots.{good, spot-near}
 use Rattle.volume.proofs.Area.{area}
@@ -54,7 +54,7 @@ module _ (s : Site) (near : nearSite s ≡ true) where
       (above-most (s .right) (s .left) (n .right) (n .left), above-most (s .bottom) (s .top) (n .bottom) (n .top))
 
 -- THEOREM: no heap of good points over a fit site is larger than 8·10^15 cubic millimetres
-pub volume-most : (s : Site) {columns : ℕ} → Fit s columns → (xs ys zs : List Float) → goodPoints xs ys zs ≡ true → volumeOf s (spotsOf xs ys zs) ≤ volumeMost
+pub volume-most : (s : Site) {columns : ℕ} → SiteFits s columns → (xs ys zs : List Float) → goodPoints xs ys zs ≡ true → volumeOf s (spotsOf xs ys zs) ≤ volumeMost
 unfolding volumeOf
 volume-most s fit xs ys zs e =
     let cellArea = s .cell * s .cell in

@@ -1,4 +1,4 @@
--- Lemmas that the functions' proofs share, and the theorems: `Coordinates`, `Counts`, `Ordering`, `Greatest`, `Even`, `Largest` and `Measured` have those.
+-- Lemmas that the functions' proofs share, and the theorems: `Coordinates`, `Counts`, `Ordering`, `Greatest`, `Even`, `Largest`, `Refusing` and `Measured` have those.
 pub mod Coordinates
 pub mod Spots
 pub mod Differences
@@ -9,7 +9,7 @@ pub mod Greatest
 pub mod Area
 pub mod Even
 pub mod Largest
-pub mod Shapes
+pub mod Refusing
 pub mod Filling
 pub mod Settling
 pub mod Lowered

@@ -16,28 +16,28 @@ use Rattle.volume.specs.declared.site.Site.{Site}
 use Rattle.volume.specs.declared.metres.Spot.{Spot}
 use Rattle.volume.specs.Rectangle.{cellsOf}
 use Rattle.volume.specs.Heights.{heightAt, isEmpty, gridOf, emptyCount, volumeOf}
-use Rattle.volume.specs.Answers.{heightMost, levelAt, levelsOf, LevelsFit}
+use Rattle.volume.specs.Inner.{heightMost, levelOfCell, levelsOf, LevelsFit}
 use Rattle.volume.proofs.Greatest.{empty-zero}
 
 module _ (s : Site) (ps : List Spot) where
   pub levels-length : length (levelsOf s ps) ≡ cellsOf s
   unfolding levelsOf
-  levels-length = listOf-length (cellsOf s) (levelAt s ps)
+  levels-length = listOf-length (cellsOf s) (levelOfCell s ps)
 
-  level-there : (c : ℕ) → c < cellsOf s → getD (levelsOf s ps) c 0 ≡ levelAt s ps c
+  level-there : (c : ℕ) → c < cellsOf s → getD (levelsOf s ps) c 0 ≡ levelOfCell s ps c
   unfolding levelsOf
-  level-there c below = listOf-at (cellsOf s) (levelAt s ps) c 0 below
+  level-there c below = listOf-at (cellsOf s) (levelOfCell s ps) c 0 below
 
-  level-lowered : (c : ℕ) → levelAt s ps c - 1 ≡ heightAt s ps c
-  unfolding levelAt
+  level-lowered : (c : ℕ) → levelOfCell s ps c - 1 ≡ heightAt s ps c
+  unfolding levelOfCell
   level-lowered c = go (isEmpty s ps c) refl
     where
       go : (t : Bool) → isEmpty s ps c ≡ t → cond t 0 (suc (heightAt s ps c)) - 1 ≡ heightAt s ps c
       go true e = omega (arith, empty-zero s ps c e)
       go false e = omega arith
 
-  level-zero : (c : ℕ) → eqb (levelAt s ps c) 0 ≡ isEmpty s ps c
-  unfolding levelAt
+  level-zero : (c : ℕ) → eqb (levelOfCell s ps c) 0 ≡ isEmpty s ps c
+  unfolding levelOfCell
   level-zero c = go (isEmpty s ps c)
     where
       go : (t : Bool) → eqb (cond t 0 (suc (heightAt s ps c))) 0 ≡ t
@@ -62,7 +62,7 @@ module _ (s : Site) (ps : List Spot) where
 
   pub levels-lowered : map (λ v. v - 1) (levelsOf s ps) ≡ gridOf s ps
   unfolding levelsOf gridOf
-  levels-lowered = map-listOf (λ v. v - 1) (cellsOf s) (levelAt s ps) ∙ listOf-same (cellsOf s) _ _ (λ c _. level-lowered c)
+  levels-lowered = map-listOf (λ v. v - 1) (cellsOf s) (levelOfCell s ps) ∙ listOf-same (cellsOf s) _ _ (λ c _. level-lowered c)
 
   pub levels-fit : ((c : ℕ) → heightAt s ps c ≤ heightMost) → LevelsFit (levelsOf s ps)
   levels-fit most c =

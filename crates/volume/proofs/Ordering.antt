@@ -1,25 +1,23 @@
 -- The grid and the figures are the same for the points in any order. Assumes nothing.
 use Prim.Native.Nat.{ℕ, _+_, _*_, max}
-use mathlib.Core.Path.{_≡_, refl, sym, ap, _∙_}
+use mathlib.Core.Path.{_≡_, refl, sym, ap, ap₂, _∙_}
 use mathlib.Core.Bool.{Bool, true, false, not, cond, _&&_}
 use mathlib.Core.List.{List, _∷_}
 use native.Mathlib.Nat.{add-left-comm}
 use native.Mathlib.Omega.{arith}
 use lib.ListN.{length}
-use lib.Dec.{eqb}
 use lib.Ieee.{Float}
 use Rattle.lists.proofs.Lists.{listOf-same}
 use Rattle.lists.proofs.Sums.{sumTo-same}
+use Rattle.refusals.specs.Answered.{firstOf}
+use Rattle.refusals.specs.Outcome.{answerFor, after}
 use Rattle.volume.specs.declared.site.Site.{Site}
-use Rattle.volume.specs.declared.site.Shape.{Shape}
-use Rattle.volume.specs.declared.site.Shape.the-variants as shape
 use Rattle.volume.specs.declared.metres.Spot.{Spot}
-use Rattle.volume.specs.declared.heap.Heap.{Heap}
 use Rattle.volume.specs.declared.heap.Heap.the-variants as heap
 use Rattle.volume.specs.Metres.{goodPoints, spotsOf}
 use Rattle.volume.specs.Rectangle.{cellsOf}
 use Rattle.volume.specs.Heights.{isInside, fallsIn, heightOf, heightAt, isEmpty, insideCount, outsideCount, gridOf, emptyCount, volumeOf, figuresOf}
-use Rattle.volume.specs.Outcome.{shapeFor, heapIn, heapOf, after, gridAfter}
+use Rattle.volume.specs.Outcome.{heapRows, heapOf, gridAfter}
 use Rattle.volume.specs.Orders.{Rearranged, same, behind, exchanged, further}
 
 -- what is made of a list step by step does not know the order, where two steps may change places
@@ -103,21 +101,17 @@ module _ (s : Site) {ps qs : List Spot} (r : Rearranged ps qs) where
 
 -- ---- of the call
 
-heap-same : (found : Shape) (s : Site) {ps qs : List Spot} → Rearranged ps qs → (m : ℕ) → heapIn found s ps m ≡ heapIn found s qs m
-heap-same (shape.Grid columns rows) s r m = ap (λ f. cond (eqb m (columns * rows)) (heap.Measured f) (heap.Refused 55)) (figures-same s r)
-heap-same (shape.Refused n) s r m = refl
-
-after-same : (answer : Heap) (s : Site) {ps qs : List Spot} → Rearranged ps qs → (grid : List ℕ) → after answer s ps grid ≡ after answer s qs grid
-after-same (heap.Measured f) s r grid = grid-same s r
-after-same (heap.Refused n) s r grid = refl
-
 -- THEOREM: good points given in another order have the same answer and the same grid
 module _ (s : Site) (xs ys zs xs′ ys′ zs′ : List Float) (good : goodPoints xs ys zs ≡ true) (good′ : goodPoints xs′ ys′ zs′ ≡ true)
     (r : Rearranged (spotsOf xs ys zs) (spotsOf xs′ ys′ zs′)) where
+  -- they have the same rows
+  pub rows-same : (m : ℕ) → heapRows s xs ys zs m ≡ heapRows s xs′ ys′ zs′ m
+  rows-same m = rw (good, good′)
+
   pub answer-same : (m : ℕ) → heapOf s xs ys zs m ≡ heapOf s xs′ ys′ zs′ m
   unfolding heapOf
-  answer-same m = rw (good, good′) (heap-same (shapeFor true s) s r m)
+  answer-same m = ap₂ (λ rows f. answerFor (firstOf rows) heap.Refused (heap.Measured f)) (rows-same m) (figures-same s r)
 
   pub grid-after-same : (grid : List ℕ) → gridAfter s xs ys zs grid ≡ gridAfter s xs′ ys′ zs′ grid
   unfolding gridAfter
-  grid-after-same grid = rw (answer-same (length grid)) (after-same (heapOf s xs′ ys′ zs′ (length grid)) s r grid)
+  grid-after-same grid = ap₂ (λ rows made. after (firstOf rows) made grid) (rows-same (length grid)) (grid-same s r)

@@ -12,7 +12,7 @@ use Rattle.lists.specs.Sums.{sumTo}
 use Rattle.lists.proofs.Lists.{filled-next, filled-rest, filled-end}
 use Rattle.lists.proofs.Sums.{sumTo-bound}
 use Rattle.volume.specs.Rectangle.{cellsMost}
-use Rattle.volume.specs.Answers.{LevelsFit, heightMost}
+use Rattle.volume.specs.Inner.{LevelsFit, heightMost}
 
 -- the height of cell i, and whether it is empty, by its level
 abbrev pub heightUnder : List ℕ → ℕ → ℕ

@@ -1,6 +1,6 @@
 -- What a heap's answers give back: values, or the number of the refusal. Definitions only.
 use Prim.Native.Nat.{ℕ}
-use Rattle.lists.specs.Steps.{Or, is, refused}
+use Rattle.refusals.specs.Steps.{Or, is, refused}
 use Rattle.volume.specs.declared.site.Shape.{Shape}
 use Rattle.volume.specs.declared.site.Shape.the-variants as shape
 use Rattle.volume.specs.declared.heap.Figures.{Figures}

@@ -1,51 +1,44 @@
 -- The calls' refusals in their order, their answers, and the lent grid afterwards. A refusal changes nothing. Definitions only.
-use Prim.Native.Nat.{ℕ, _*_}
-use mathlib.Core.Bool.{Bool, true, cond, _&&_}
-use mathlib.Core.List.{List}
+use Prim.Native.Nat.{ℕ}
+use mathlib.Core.Path.{_≡_}
+use mathlib.Core.Bool.{Bool, true, not, _&&_}
+use mathlib.Core.List.{List, [], _∷_, _++_}
 use lib.ListN.{length}
-use lib.Dec.{leb, eqb}
+use lib.Dec.{ltb, eqb}
 use lib.Ieee.{Float}
+use Rattle.refusals.specs.Answered.{Row, row, firstOf}
+use Rattle.refusals.specs.Outcome.{answerFor, after}
 use Rattle.volume.specs.declared.site.Site.{Site}
 use Rattle.volume.specs.declared.site.Shape.{Shape}
 use Rattle.volume.specs.declared.site.Shape.the-variants as shape
-use Rattle.volume.specs.declared.metres.Spot.{Spot}
 use Rattle.volume.specs.declared.heap.Heap.{Heap}
 use Rattle.volume.specs.declared.heap.Heap.the-variants as heap
 use Rattle.volume.specs.Metres.{goodPoints, spotsOf}
 use Rattle.volume.specs.Rectangle.{goodCell, nearSite, goodSides, columnsOf, rowsOf, cellsOf, cellsMost}
 use Rattle.volume.specs.Heights.{gridOf, figuresOf}
 
--- the cells of a row and the rows, or 51 to 54 in their order; `good` says whether the points are good
-unfoldable pub shapeFor : Bool → Site → Shape
-shapeFor good s =
-    cond (goodCell s)
-    (cond (good && nearSite s)
-    (cond (goodSides s)
-    (cond (leb (cellsOf s) cellsMost)
-    (shape.Grid (columnsOf s) (rowsOf s))
-    (shape.Refused 54))
-    (shape.Refused 53))
-    (shape.Refused 52))
-    (shape.Refused 51)
+-- 51 the cell side, 52 the points and the edges, 53 the sides, 54 the number of cells; `good` says whether the points are good
+abbrev pub siteRows : Bool → Site → List Row
+siteRows good s =
+    row 51 (not (goodCell s)) ∷ row 52 (not (good && nearSite s)) ∷ row 53 (not (goodSides s)) ∷ row 54 (ltb cellsMost (cellsOf s)) ∷ []
 
--- the shape of a site's grid, whatever the points
-abbrev pub shapeOf : Site → Shape
-shapeOf s = shapeFor true s
+-- the shape of a site's grid, whatever the points: the cells of a row, and the rows
+unfoldable pub gridShape : Site → Shape
+gridShape s = answerFor (firstOf (siteRows true s)) shape.Refused (shape.Grid (columnsOf s) (rowsOf s))
 
--- the figures of a heap for a grid of m cells: 55 where that is not their number
-abbrev pub heapIn : Shape → Site → List Spot → ℕ → Heap
-heapIn (shape.Grid columns rows) s ps m = cond (eqb m (columns * rows)) (heap.Measured (figuresOf s ps)) (heap.Refused 55)
-heapIn (shape.Refused n) s ps m = heap.Refused n
+-- and then 55 where the grid has not a cell for each of the site's; it has m
+abbrev pub heapRows : Site → List Float → List Float → List Float → ℕ → List Row
+heapRows s xs ys zs m = siteRows (goodPoints xs ys zs) s ++ row 55 (not (eqb m (cellsOf s))) ∷ []
 
 -- the answer for a grid of m cells and the points whose coordinates are given
 unfoldable pub heapOf : Site → List Float → List Float → List Float → ℕ → Heap
-heapOf s xs ys zs m = heapIn (shapeFor (goodPoints xs ys zs) s) s (spotsOf xs ys zs) m
+heapOf s xs ys zs m = answerFor (firstOf (heapRows s xs ys zs m)) heap.Refused (heap.Measured (figuresOf s (spotsOf xs ys zs)))
 
--- the grid after an answer: the heights
-abbrev pub after : Heap → Site → List Spot → List ℕ → List ℕ
-after (heap.Measured f) s ps grid = gridOf s ps
-after (heap.Refused n) s ps grid = grid
-
--- the grid afterwards
+-- the grid afterwards: the heights
 unfoldable pub gridAfter : Site → List Float → List Float → List Float → List ℕ → List ℕ
-gridAfter s xs ys zs grid = after (heapOf s xs ys zs (length grid)) s (spotsOf xs ys zs) grid
+gridAfter s xs ys zs grid = after (firstOf (heapRows s xs ys zs (length grid))) (gridOf s (spotsOf xs ys zs)) grid
+
+-- what a call of `heap_volume` answers and leaves
+pub record HeapOutcome (r : Heap) (s : Site) (xs ys zs : List Float) (grid grid′ : List ℕ) : Type 0 where
+  pub answer : r ≡ heapOf s xs ys zs (length grid)
+  pub grids : grid′ ≡ gridAfter s xs ys zs grid

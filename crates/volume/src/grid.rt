@@ -15,7 +15,7 @@ ghost use Rattle.lists.specs.Sums.{sumTo};
 ghost use Rattle.volume.specs.Metres.{isNear, goodPoints, spotsOf};
 ghost use Rattle.volume.specs.Rectangle.{cellsOf, cellsMost};
 ghost use Rattle.volume.specs.Heights.{isInside, heightOf, insideCount};
-ghost use Rattle.volume.specs.Answers.{Fit, fallOf, raisedAt, levelsOf, LevelsFit};
+ghost use Rattle.volume.specs.Inner.{SiteFits, fallOf, raisedAt, levelsOf, LevelsFit};
 
 // The sum of a grid's heights, and how many cells are empty.
 pub struct Totals {
@@ -35,7 +35,7 @@ fn raise(grid: &mut [u64], c: usize, level: u64)
 
 // Lets a point fall. The answer is whether it lies in the rectangle.
 fn drop_point(grid: &mut [u64], columns: usize, site: Site, at: Spot) -> bool
-    requires { ⌜ Fit site columns × ((isNear (at .z) ≡ true) × (length (now grid) ≡ cellsOf site)) ⌝ }
+    requires { ⌜ SiteFits site columns × ((isNear (at .z) ≡ true) × (length (now grid) ≡ cellsOf site)) ⌝ }
     ensures { λ r. ⌜ (r ≡ isInside site at) × (now (grid .exit) ≡ raisedAt (fallOf site at) (heightOf site at) (now (grid .entry))) ⌝ }
 {
     let Fall::Cell(c) = fall_of(columns, site, at) else {
@@ -54,7 +54,7 @@ pub fn drop_points(
     ys: &[f64],
     zs: &[f64],
 ) -> usize
-    requires { ⌜ Fit site columns × ((goodPoints (now xs) (now ys) (now zs) ≡ true) × (now grid ≡ replicate (cellsOf site) 0)) ⌝ }
+    requires { ⌜ SiteFits site columns × ((goodPoints (now xs) (now ys) (now zs) ≡ true) × (now grid ≡ replicate (cellsOf site) 0)) ⌝ }
     ensures { λ r. ⌜ (r ≡ insideCount site (spotsOf (now (xs .entry)) (now (ys .entry)) (now (zs .entry)))) × (now (grid .exit) ≡ levelsOf site (spotsOf (now (xs .entry)) (now (ys .entry)) (now (zs .entry)))) ⌝ }
 {
     let mut inside: usize = 0;

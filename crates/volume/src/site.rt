@@ -3,11 +3,12 @@ use crate::metres::Spot;
 ghost use mathlib.Core.Path.{_≡_};
 ghost use mathlib.Core.Bool.{true};
 ghost use Prim.Native.Nat.{_<_};
+ghost use Rattle.refusals.specs.Answered.{firstOf};
 ghost use Rattle.volume.specs.Metres.{isNear};
-ghost use Rattle.volume.specs.Rectangle.{above, multiple, nearSite, goodCell, columnsOf};
+ghost use Rattle.volume.specs.Rectangle.{above, multiple, nearSite, goodCell, goodSides, wideOf, longOf, columnsOf, rowsOf, cellsOf};
 ghost use Rattle.volume.specs.Heights.{isBetween, heightOf};
-ghost use Rattle.volume.specs.Outcome.{shapeFor};
-ghost use Rattle.volume.specs.Answers.{Near, fallOf};
+ghost use Rattle.volume.specs.Outcome.{siteRows};
+ghost use Rattle.volume.specs.Inner.{Near, fallOf};
 
 // The largest size of a coordinate, an edge or the floor depth, in millimetres.
 const SIZE_MOST: i64 = 100000;
@@ -98,37 +99,88 @@ fn is_multiple(n: usize, side: usize) -> bool
     n % side == 0
 }
 
-// The cells of a row and the rows of a site, or its refusal; `good` says whether the points are good.
-pub fn shape_for(good: bool, site: Site) -> Shape
-    ensures { λ r. ⌜ r ≡ shapeFor good site ⌝ }
+// Whether the cell side is from 10 to 10,000 mm.
+fn good_cell(site: Site) -> bool
+    ensures { λ r. ⌜ r ≡ goodCell site ⌝ }
 {
-    let side = site.cell;
-    if side < 10 {
-        return Shape::Refused(51);
+    if site.cell < 10 {
+        return false;
     }
-    if 10000 < side {
-        return Shape::Refused(51);
+    site.cell <= 10000
+}
+
+// The rectangle's sides.
+fn wide_of(site: Site) -> usize
+    requires { ⌜ nearSite site ≡ true ⌝ }
+    ensures { λ r. ⌜ r ≡ wideOf site ⌝ }
+{
+    above_by(site.right, site.left)
+}
+
+fn long_of(site: Site) -> usize
+    requires { ⌜ nearSite site ≡ true ⌝ }
+    ensures { λ r. ⌜ r ≡ longOf site ⌝ }
+{
+    above_by(site.bottom, site.top)
+}
+
+// Whether both are positive and whole multiples of the cell side.
+fn good_sides(site: Site) -> bool
+    requires { ⌜ goodCell site ≡ true ⌝ }
+    requires { ⌜ nearSite site ≡ true ⌝ }
+    ensures { λ r. ⌜ r ≡ goodSides site ⌝ }
+{
+    if !is_multiple(wide_of(site), site.cell) {
+        return false;
+    }
+    is_multiple(long_of(site), site.cell)
+}
+
+// The cells of a row, the rows, and all cells.
+pub fn columns_of(site: Site) -> usize
+    requires { ⌜ goodCell site ≡ true ⌝ }
+    requires { ⌜ nearSite site ≡ true ⌝ }
+    ensures { λ r. ⌜ r ≡ columnsOf site ⌝ }
+{
+    wide_of(site) / site.cell
+}
+
+pub fn rows_of(site: Site) -> usize
+    requires { ⌜ goodCell site ≡ true ⌝ }
+    requires { ⌜ nearSite site ≡ true ⌝ }
+    ensures { λ r. ⌜ r ≡ rowsOf site ⌝ }
+{
+    long_of(site) / site.cell
+}
+
+pub fn cells_of(site: Site) -> usize
+    requires { ⌜ goodCell site ≡ true ⌝ }
+    requires { ⌜ nearSite site ≡ true ⌝ }
+    ensures { λ r. ⌜ r ≡ cellsOf site ⌝ }
+{
+    columns_of(site) * rows_of(site)
+}
+
+// The number of a site's refusal, 0 for none; `good` says whether the points are good.
+pub fn site_refusal(good: bool, site: Site) -> u8
+    ensures { λ n. ⌜ n ≡ firstOf (siteRows good site) ⌝ }
+{
+    if !good_cell(site) {
+        return 51;
     }
     if !good {
-        return Shape::Refused(52);
+        return 52;
     }
     if !near_site(site) {
-        return Shape::Refused(52);
+        return 52;
     }
-    let wide = above_by(site.right, site.left);
-    let long = above_by(site.bottom, site.top);
-    if !is_multiple(wide, side) {
-        return Shape::Refused(53);
+    if !good_sides(site) {
+        return 53;
     }
-    if !is_multiple(long, side) {
-        return Shape::Refused(53);
+    if CELLS_MOST < cells_of(site) {
+        return 54;
     }
-    let columns = wide / side;
-    let rows = long / side;
-    if CELLS_MOST < columns * rows {
-        return Shape::Refused(54);
-    }
-    Shape::Grid(columns, rows)
+    0
 }
 
 // Where a point falls, for a site whose rows have so many cells.

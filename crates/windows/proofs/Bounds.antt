@@ -1,7 +1,6 @@
 -- Under the sizes allowed every sum is below 2^53.
-use Prim.Native.Nat.{ℕ, _+_, _*_, _^_, _≤_, _<_}
-use mathlib.Core.Path.{_≡_}
-use native.Mathlib.Nat.{mul-le-mul, le-trans}
+use Prim.Native.Nat.{ℕ, _*_, _^_, _≤_, _<_}
+use native.Mathlib.Nat.{mul-le-mul}
 use native.Mathlib.Omega.{arith}
 use Rattle.options.specs.Limits.{sideMost}
 use Rattle.lists.specs.Sums.{sumTo, sumRect}

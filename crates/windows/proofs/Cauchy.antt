@@ -2,14 +2,14 @@
 use Prim.Native.Nat.{ℕ, zero, suc, _+_, _*_, _-_, _≤_, _<_, zero-le}
 use mathlib.Core.Path.{_≡_, refl, sym, ap, ap₂, _∙_}
 use mathlib.Core.Logic.{⊎-elim}
-use native.Mathlib.Nat.{mul-add, add-mul, suc-mul, mul-comm, mul-assoc, mul-left-comm, mul-mul-mul-comm, mul-le-mul, mul-zero, zero-mul, one-mul, sub-zero, add-zero, le-trans, le-refl}
+use native.Mathlib.Nat.{mul-add, add-mul, mul-comm, mul-assoc, mul-left-comm, mul-mul-mul-comm, mul-le-mul, mul-zero, zero-mul, one-mul, sub-zero, add-zero, le-refl}
 use native.Mathlib.Nat.{mul-lt-mul-of-pos-left, eq-zero-or-pos, mul-sub, mul-le-mul-left, mul-right-comm, add-sub-of-le}
 use native.Mathlib.Omega.{arith}
 use borrow.Author.Tests.{lt-ltb, le-ltb}
 use lib.IntN.{ℤ, pos, negsuc, natAbs, negℤ, subℕ, _-ℤ_, _*ℤ_, zero-*ℤ}
 use Rattle.lists.proofs.Tests.{lt-or-le}
 use Rattle.lists.specs.Sums.{sumTo}
-use Rattle.windows.specs.Moments.{varianceOf, covarianceOf, varOf, covOf}
+use Rattle.windows.specs.Moments.{varOf, covOf}
 use Rattle.lists.proofs.Sums.{sumTo-same, sumTo-plus, sumTo-scale, sumTo-const, sumTo-member}
 use Rattle.windows.proofs.Laws.{dist, var-not-cut, var-reflected}
 

@@ -1,10 +1,10 @@
 -- A window's sum from four cells of a table that stands somewhere in a room. Assumes nothing.
 use Prim.Native.Nat.{ℕ, _+_, _*_, _-_, _≤_, _<_}
-use mathlib.Core.Path.{_≡_, refl, sym, ap, _∙_}
+use mathlib.Core.Path.{_≡_, refl, ap, _∙_}
 use mathlib.Core.List.{List}
 use native.Mathlib.Nat.{add-mul}
 use native.Mathlib.Omega.{arith}
-use lib.ListN.{length, getD}
+use lib.ListN.{getD}
 use Rattle.windows.specs.Table.{tableOf}
 use Rattle.windows.specs.Window.{windowSum, Inside, cells, cornerAt, TableFrom, cornerSum, Corners}
 use Rattle.windows.proofs.Tables.{length-table}

@@ -1,6 +1,6 @@
 -- A window's pixels in one row: what the laws over n levels say of windows of a picture.
-use Prim.Native.Nat.{ℕ, zero, suc, _+_, _*_, _-_, _/_, _%_, _^_, _≤_, _<_}
-use mathlib.Core.Path.{_≡_, refl, sym, ap, ap₂, _∙_}
+use Prim.Native.Nat.{ℕ, zero, suc, _+_, _*_, _-_, _/_, _%_, _≤_, _<_}
+use mathlib.Core.Path.{_≡_, sym, ap, ap₂, _∙_}
 use mathlib.Core.List.{List}
 use mathlib.Core.Logic.{⊎-elim}
 use native.Mathlib.Nat.{le-refl, suc-mul, zero-mul, mul-add-mod-self-right, mod-eq-of-lt, mul-add-div-right, div-eq-of-lt, add-zero, mul-le-mul, mod-lt, div-lt-iff-lt-mul}
@@ -11,7 +11,7 @@ use lib.IntN.{ℤ, pos, negsuc, natAbs, _+ℤ_, pos-ne-negsuc}
 use Rattle.lists.proofs.Tests.{lt-or-le}
 use Rattle.lists.specs.Rows.{levelAt, rowOf}
 use Rattle.lists.specs.Sums.{sumTo, sumRect}
-use Rattle.windows.specs.Table.{levelIn, squareAt, columnAt, crossAt}
+use Rattle.windows.specs.Table.{squareAt, columnAt, crossAt}
 use Rattle.windows.specs.Window.{windowSum}
 use Rattle.windows.specs.Moments.{varianceOf, covarianceOf, varOf, covOf}
 use Rattle.windows.proofs.Bounds.{Below53, window-fits}

@@ -1,15 +1,14 @@
 -- The laws of variance and covariance, over any n levels a 0, .., a (n - 1), in any order of the window's pixels.
-use Prim.Native.Nat.{ℕ, zero, suc, _+_, _*_, _-_, _≤_, _<_, zero-le}
+use Prim.Native.Nat.{ℕ, zero, suc, _+_, _*_, _-_, _≤_, _<_}
 use mathlib.Core.Path.{_≡_, refl, sym, ap, ap₂, _∙_}
 use mathlib.Core.Logic.{⊎-elim}
-use native.Mathlib.Nat.{mul-add, add-mul, suc-mul, mul-comm, mul-assoc, mul-left-comm, mul-mul-mul-comm, mul-le-mul, mul-zero, mul-one, zero-mul, one-mul}
-use native.Mathlib.Nat.{le-of-eq, le-trans, mul-lt-mul-of-pos-left, mul-lt-mul-of-pos-right, eq-zero-or-pos, mul-pos, eq-or-lt-of-le, le-of-suc-le-suc, add-sub-cancel-left}
+use native.Mathlib.Nat.{mul-add, add-mul, suc-mul, mul-comm, mul-mul-mul-comm, mul-zero, zero-mul}
+use native.Mathlib.Nat.{le-trans, eq-zero-or-pos, mul-pos, eq-or-lt-of-le, le-of-suc-le-suc}
 use native.Mathlib.Omega.{arith}
-use lib.IntN.{ℤ, pos, negsuc, natAbs, negℤ, subℕ, _-ℤ_, _*ℤ_}
 use Rattle.lists.proofs.Tests.{lt-or-le}
 use Rattle.lists.specs.Sums.{sumTo}
-use Rattle.windows.specs.Moments.{varianceOf, covarianceOf, varOf, covOf}
-use Rattle.lists.proofs.Sums.{sumTo-same, sumTo-plus, sumTo-scale, sumTo-const, sumTo-member, sumTo-bound}
+use Rattle.windows.specs.Moments.{varOf}
+use Rattle.lists.proofs.Sums.{sumTo-same, sumTo-scale, sumTo-const, sumTo-member}
 
 -- how far two numbers are apart
 abbrev pub dist : ℕ → ℕ → ℕ

@@ -1,11 +1,11 @@
 -- The recurrence of a table's row, once for every kind of table: f is the row's values.
-use Prim.Native.Nat.{ℕ, zero, suc, _+_, _*_, _^_, _≤_, _<_, zero-le}
-use mathlib.Core.Path.{_≡_, refl, sym, ap, ap₂, _∙_}
+use Prim.Native.Nat.{ℕ, suc, _+_, _*_, _^_, _≤_, _<_, zero-le}
+use mathlib.Core.Path.{_≡_, refl, sym, ap, _∙_}
 use mathlib.Core.List.{List, [], _∷_, _++_, append-nil, append-assoc}
 use native.Mathlib.Numerals.{add-one}
 use native.Mathlib.Nat.{add-zero, add-assoc, le-antisymm}
 use native.Mathlib.Omega.{arith}
-use lib.ListN.{length, getD, take, drop, set, length-append, length-set, length-drop, List·getD-append, take-append-drop, drop-of-length-le}
+use lib.ListN.{length, getD, take, drop, set, length-append, length-drop, List·getD-append, take-append-drop, drop-of-length-le}
 use lib.Seq.{length-take-le, getD-take, drop-cons, set-at}
 use Rattle.lists.proofs.Lists.{listOf-length, listOf-snoc}
 use Rattle.lists.specs.Lists.{listOf}

@@ -1,14 +1,14 @@
 -- The loop over a table's rows, once for every kind of table: f is the picture's values.
-use Prim.Native.Nat.{ℕ, zero, suc, _+_, _*_, _^_, _-_, _≤_, _<_, zero-le}
-use mathlib.Core.Path.{_≡_, refl, sym, ap, ap₂, _∙_}
-use mathlib.Core.List.{List, [], _∷_, _++_, append-nil, append-assoc}
+use Prim.Native.Nat.{ℕ, zero, suc, _+_, _*_, _-_, _≤_, _<_, zero-le}
+use mathlib.Core.Path.{_≡_, sym, ap, ap₂, _∙_}
+use mathlib.Core.List.{List, [], _++_, append-nil, append-assoc}
 use native.Mathlib.Numerals.{add-one}
-use native.Mathlib.Nat.{add-zero, add-assoc, add-mul, le-refl, zero-mul, one-mul, min-le-left, le-antisymm, le-trans, mul-le-mul, mul-comm, mul-suc, suc-mul, add-sub-cancel-left, zero-add}
+use native.Mathlib.Nat.{add-mul, le-refl, zero-mul, one-mul, min-le-left, le-antisymm, le-trans, mul-le-mul, mul-comm, suc-mul, add-sub-cancel-left}
 use mathlib.Core.Logic.{⊎-elim}
 use native.Mathlib.Omega.{arith}
 use borrow.Rule.Slice.PartMut.{putMid, same-len-mid}
-use lib.ListN.{length, getD, take, drop, set, replicate, length-replicate, length-append, length-drop, length-take, drop-of-length-le, List·getD-append, List·getD-eq-default}
-use lib.Seq.{length-take-le, take-at, drop-at, take-append-le, getD-take, getD-drop, drop-drop, take-take, drop-append-add}
+use lib.ListN.{length, getD, take, drop, replicate, length-replicate, length-append, length-drop, length-take, drop-of-length-le, List·getD-append, List·getD-eq-default}
+use lib.Seq.{length-take-le, take-at, drop-at, getD-take, drop-drop, take-take, drop-append-add}
 use Rattle.options.specs.Limits.{sideMost}
 use Rattle.lists.proofs.Tests.{lt-or-le}
 use Rattle.lists.proofs.Rows.{row-at}

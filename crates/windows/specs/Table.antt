@@ -1,9 +1,9 @@
 -- Summed-area tables of a picture. Definitions only.
 use Prim.Native.Nat.{ℕ, zero, suc, _+_, _*_, _^_, _≤_, _<_}
 use mathlib.Core.Path.{_≡_}
-use mathlib.Core.List.{List, [], _∷_, _++_}
+use mathlib.Core.List.{List, [], _++_}
 use lib.IntN.{ℤ, pos, negsuc, _+ℤ_}
-use lib.ListN.{length, getD, take, drop}
+use lib.ListN.{length, getD, take}
 use Rattle.options.specs.Limits.{sideMost}
 use Rattle.lists.specs.Lists.{listOf}
 use Rattle.lists.specs.Rows.{rowOf, levelAt}

@@ -5,6 +5,7 @@ use mathlib.Core.List.{List, [], _∷_, _++_}
 use lib.IntN.{pos, negsuc}
 use lib.Ieee.{Float, fin, binary32, binary64, ofBits, ofInt}
 use Rattle.options.specs.declared.BlockMatchOptions.{BlockMatchOptions}
+use Rattle.options.specs.declared.Mode.the-variants.{Block}
 use Rattle.options.specs.declared.RawCost.{RawCost}
 use Rattle.options.specs.declared.RawCost.the-variants.{Blank, Corr}
 use Rattle.options.specs.Options.{defaultOptions}
@@ -71,7 +72,7 @@ printOptions leftRight = record {
   «lr_consistency» = leftRight;
   «lr_max_diff» = defaultOptions .«lr_max_diff»;
   subpixel = false;
-  «semi_global» = false;
+  mode = Block;
   «sgm_p1» = defaultOptions .«sgm_p1»;
   «sgm_p2» = defaultOptions .«sgm_p2»;
 }

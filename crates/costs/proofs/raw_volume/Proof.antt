@@ -2,9 +2,9 @@
 use mathlib.Core.Path.{_≡_, refl, sym, ap, _∙_}
 use denote.Ref.{now}
 use lib.ListN.{length}
-use Rattle.refusals.specs.declared.Call.{Call}
-use Rattle.refusals.specs.Refusals.{refusal}
-use Rattle.refusals.proofs.Rows.{accepted}
+use Rattle.calls.specs.declared.Call.{Call}
+use Rattle.calls.specs.Refusals.{refusal}
+use Rattle.calls.proofs.Rows.{accepted}
 use Rattle.costs.specs.Outcome.{rawCall}
 use Rattle.costs.proofs.Outcomes.{sized, refused, made}
 use borrow.Author.Needs.{needs}

@@ -1,6 +1,6 @@
 -- `matching::match_block` meets its contract. Assumes nothing.
 use denote.Ref.{now}
-use mathlib.Core.Path.{_≡_, refl, sym, ap, _∙_}
+use mathlib.Core.Path.{_≡_, sym, ap, _∙_}
 use native.Mathlib.Nat.{sub-zero}
 use native.Mathlib.Omega.{arith}
 use Prim.Native.Nat.{_-_}
@@ -12,11 +12,11 @@ use lib.Ieee.{fin}
 use mir.Syntax.{w32}
 use mir.Val.{toZ, ofZ}
 use mir.ValLaws.{toZ-ofZ}
-use Rattle.refusals.specs.declared.Call.{Call}
-use Rattle.refusals.specs.declared.Output.the-variants.{Map}
-use Rattle.refusals.specs.Refusals.{refusal, floatCells}
-use Rattle.refusals.specs.Accepted.{Accepted}
-use Rattle.refusals.proofs.Rows.{accepted}
+use Rattle.calls.specs.declared.Call.{Call}
+use Rattle.calls.specs.declared.Output.the-variants.{Map}
+use Rattle.calls.specs.Refusals.{refusal, floatCells}
+use Rattle.calls.specs.Accepted.{Accepted}
+use Rattle.calls.proofs.Rows.{accepted}
 use Rattle.matching.specs.Outcome.{matchCall}
 use Rattle.matching.proofs.Outcomes.{fitted, needed, refused, made}
 use borrow.Author.Needs.{needs}
@@ -73,11 +73,12 @@ solve-requires c κs =
     let z = c .before .before .before .before .before .before .before .before .before .before .before .before in
     let n = c .before .before .before .float-cells .result in
     let a = taken (c .before .before .before .before) in
-    let e = cells-is (c .before .before .before) in (
-      fitted (now (z .args .left)) (z .args .left-w) (z .args .left-h) (now (z .args .right)) (z .args .right-w) (z .args .right-h) (z .args .opts) _ _ (length (now (z .args .float-room))) a,
-      rw (sub-zero n) (length-take-le n (now (z .args .float-room)) (omega (arith, a .float-cells)))
-          ∙ e ∙ needed (now (z .args .left)) (z .args .left-w) (z .args .left-h) (now (z .args .right)) (z .args .right-w) (z .args .right-h) (z .args .opts) 0 0 0,
-    )
+    let e = cells-is (c .before .before .before) in
+    record {
+      fits = fitted (now (z .args .left)) (z .args .left-w) (z .args .left-h) (now (z .args .right)) (z .args .right-w) (z .args .right-h) (z .args .opts) _ _ (length (now (z .args .float-room))) a;
+      cells = rw (sub-zero n) (length-take-le n (now (z .args .float-room)) (omega (arith, a .float-cells)))
+          ∙ e ∙ needed (now (z .args .left)) (z .args .left-w) (z .args .left-h) (now (z .args .right)) (z .args .right-w) (z .args .right-h) (z .args .opts) 0 0 0;
+    }
 
 same-length : tie.Need-same-length
 same-length c = search needs
@@ -97,7 +98,7 @@ returns-2 c =
     let e = cells-is (c .before .before .before .before .before .before .before .before .before .before) in
     let long : length (take (n - 0) (now (z .args .float-room))) ≡ n = rw (sub-zero n) (length-take-le n (now (z .args .float-room)) (omega (arith, a .float-cells))) in
     made (call z) (z .args .opts) (now (z .args .left)) (now (z .args .right)) (now (z .args .out)) (now (z .args .whole-room)) (now (z .args .float-room))
-    _ _ (s .last .1 .1 .1 .1 .1 .1 .1 .0) n (sym (fine (c .before .before .before .before .before .before .before .before .before .before .before))) (s .ensures .0) (s .ensures .1) e (s .ensures .2 ∙ ap (λ k. replicate k (fin false 0 (pos 0))) long)
+    _ _ (s .last .1 .1 .1 .1 .1 .1 .1 .0) n (sym (fine (c .before .before .before .before .before .before .before .before .before .before .before))) (s .ensures .map) (s .ensures .wholes) e (s .ensures .rooms ∙ ap (λ k. replicate k (fin false 0 (pos 0))) long)
 
 pub match-block-spec : {M : Type 1} → statement M
 match-block-spec =

@@ -1,48 +1,26 @@
--- `pictures::bilinear` meets its contract: the shape and each test pick the definition's case. Assumes nothing.
-use mathlib.Core.Path.{sym, _∙_}
+-- `pictures::bilinear` meets its contract: a reading that is not refused is readable. Assumes nothing.
+use mathlib.Core.Path.{sym, ap, _∙_}
 use borrow.Author.Needs.{needs}
-use Rattle.pictures.specs.Bilinear.{valueIn, sampleOf}
-use Rattle.pictures.proofs.Readings.{nan-test}
+use Rattle.refusals.proofs.Cases.{answer-made, answer-refused}
+use Rattle.pictures.specs.declared.Sample.the-variants as sample
+use Rattle.pictures.specs.Bilinear.{sampleOf}
+use Rattle.pictures.proofs.Readings.{readable}
 use Rattle.pictures.proofs.bilinear.Statement.{statement}
 use Rattle.pictures.proofs.bilinear.Tie as tie
 
-check-shape-requires : tie.Need-check-shape-requires
-check-shape-requires c κs = search needs
-
-enum-known-n : tie.Need-enum-known-n
-enum-known-n c = search needs
-
-enum-told : tie.Need-enum-told
-enum-told c = search needs
+reading-refusal-requires : tie.Need-reading-refusal-requires
+reading-refusal-requires c κs = search needs
 
 returns : tie.Need-returns
-unfolding sampleOf valueIn
-returns c = rw (sym (c .before .before .before .check-shape .ensures) ∙ c .before .enum-told .given .1, sym (nan-test _) ∙ c .if1 .taken)
-
-returns-2 : tie.Need-returns-2
-unfolding sampleOf valueIn
-returns-2 c = rw (sym (c .before .before .before .before .check-shape .ensures) ∙ c .before .before .enum-told .given .1, sym (nan-test _) ∙ c .before .if1 .left, sym (nan-test _) ∙ c .if2 .taken)
+unfolding sampleOf
+returns c = answer-refused _ _ (c .before .reading-refusal .ensures) (c .if1 .taken)
 
 value-requires : tie.Need-value-requires
-value-requires c κs = record {
-  good = sym (c .before .before .before .before .check-shape .ensures) ∙ c .before .before .enum-told .given .1;
-  x-is = sym (nan-test _) ∙ c .before .if1 .left;
-  y-is = sym (nan-test _) ∙ c .if2 .left;
-}
+value-requires c κs = let a = c .before .before .before .args in readable (a .pic .now) (a .width) (a .height) (a .xf) (a .yf) (sym (c .before .reading-refusal .ensures) ∙ c .if1 .left)
 
-returns-3 : tie.Need-returns-3
-unfolding sampleOf valueIn
-returns-3 c = rw (sym (c .before .before .before .check-shape .ensures) ∙ c .before .n .given .1)
-
-returns-4 : tie.Need-returns-4
-unfolding sampleOf valueIn
-returns-4 c =
-    rw (
-      sym (c .before .before .before .before .before .check-shape .ensures) ∙ c .before .before .before .enum-told .given .1,
-      sym (nan-test _) ∙ c .before .before .if1 .left,
-      sym (nan-test _) ∙ c .before .if2 .left,
-      c .value .ensures,
-    )
+returns-2 : tie.Need-returns-2
+unfolding sampleOf
+returns-2 c = ap sample.At (c .value .ensures) ∙ answer-made _ _ (c .before .before .reading-refusal .ensures) (c .before .if1 .left)
 
 pub bilinear-spec : {M : Type 1} → statement M
-bilinear-spec = tie.close (tie.spec check-shape-requires enum-known-n enum-told returns returns-2 value-requires returns-3 returns-4)
+bilinear-spec = tie.close (tie.spec reading-refusal-requires returns value-requires returns-2)

@@ -1,46 +1,30 @@
--- `pictures::pixel` meets its contract: the shape and each test pick the definition's case, and a pixel inside has its byte in the picture. Assumes nothing.
-use mathlib.Core.Path.{sym, _∙_}
+-- `pictures::pixel` meets its contract: a pixel that is not refused has its byte in the picture. Assumes nothing.
+use mathlib.Core.Path.{sym, ap, _∙_}
 use borrow.Author.Needs.{needs}
-use borrow.Author.Tests.{lt-ltb, le-ltb}
-use Rattle.pictures.specs.Picture.{levelIn, pixelOf}
-use Rattle.pictures.proofs.Shapes.{byte-in}
+use lib.ListN.{length}
+use Rattle.refusals.proofs.Cases.{answer-made, answer-refused}
+use Rattle.pictures.specs.declared.Level.the-variants as level
+use Rattle.pictures.specs.Picture.{pixelOf}
+use Rattle.pictures.proofs.Shapes.{inside, byte-in}
 use Rattle.pictures.proofs.pixel.Statement.{statement}
 use Rattle.pictures.proofs.pixel.Tie as tie
 
-check-shape-requires : tie.Need-check-shape-requires
-check-shape-requires c κs = search needs
-
-enum-known-n : tie.Need-enum-known-n
-enum-known-n c = search needs
-
-enum-told : tie.Need-enum-told
-enum-told c = search needs
+level-refusal-requires : tie.Need-level-refusal-requires
+level-refusal-requires c κs = search needs
 
 returns : tie.Need-returns
-unfolding pixelOf levelIn
-returns c = rw (sym (c .before .before .before .check-shape .ensures) ∙ c .before .enum-told .given .1, le-ltb _ _ (c .if1 .taken))
-
-returns-2 : tie.Need-returns-2
-unfolding pixelOf levelIn
-returns-2 c = rw (sym (c .before .before .before .before .check-shape .ensures) ∙ c .before .before .enum-told .given .1, lt-ltb _ _ (c .before .if1 .left), le-ltb _ _ (c .if2 .taken))
+unfolding pixelOf
+returns c = answer-refused _ _ (c .before .level-refusal .ensures) (c .if1 .taken)
 
 byte-inside-requires : tie.Need-byte-inside-requires
 byte-inside-requires c κs =
-    (c .before .if1 .left, byte-in (c .before .before .before .before .before .before .args .pic .now) _ _ _ _ (sym (c .before .before .before .before .check-shape .ensures) ∙ c .before .before .enum-told .given .1) (c .before .if1 .left) (c .if2 .left))
+    let a = c .before .before .before .args in
+    let i = inside (length (a .pic .now)) (a .width) (a .height) (a .x) (a .y) (sym (c .before .level-refusal .ensures) ∙ c .if1 .left) in
+    (i .x-in, byte-in (a .pic .now) (a .width) (a .height) (a .x) (a .y) (i .good) (i .x-in) (i .y-in))
 
-returns-3 : tie.Need-returns-3
-unfolding pixelOf levelIn
-returns-3 c = rw (sym (c .before .before .before .check-shape .ensures) ∙ c .before .n .given .1)
-
-returns-4 : tie.Need-returns-4
-unfolding pixelOf levelIn
-returns-4 c =
-    rw (
-      sym (c .before .before .before .before .before .check-shape .ensures) ∙ c .before .before .before .enum-told .given .1,
-      lt-ltb _ _ (c .before .before .if1 .left),
-      lt-ltb _ _ (c .before .if2 .left),
-      c .byte-inside .ensures,
-    )
+returns-2 : tie.Need-returns-2
+unfolding pixelOf
+returns-2 c = ap level.At (c .byte-inside .ensures) ∙ answer-made _ _ (c .before .before .level-refusal .ensures) (c .before .if1 .left)
 
 pub pixel-spec : {M : Type 1} → statement M
-pixel-spec = tie.close (tie.spec check-shape-requires enum-known-n enum-told returns returns-2 byte-inside-requires returns-3 returns-4)
+pixel-spec = tie.close (tie.spec level-refusal-requires returns byte-inside-requires returns-2)

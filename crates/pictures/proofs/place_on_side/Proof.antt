@@ -8,17 +8,17 @@ use borrow.Author.Needs.{needs}
 use lib.Dec.{lit≤}
 use lib.Ieee.{ofBits}
 use Rattle.options.specs.Limits.{sideMost}
+use Rattle.options.proofs.Sides.{SideFits, side-fits}
 use Rattle.numbers.specs.Operators.{_⊖_, float}
 use Rattle.pictures.specs.Bilinear.{one, plusZero, clamped, placeOf}
-use Rattle.pictures.proofs.Shapes.{Side, side}
 use Rattle.pictures.proofs.Values.{Upto}
 use Rattle.pictures.proofs.Places.{counted, side-upto, upto-low, upto-high, whole-part}
 use Rattle.pictures.proofs.place_on_side.Statement.{statement}
 use Rattle.pictures.proofs.place_on_side.Tie as tie
 
 -- the side is in its range
-sized : (c : tie.Start) → Side (c .args .n)
-sized c = side (c .args .n) (c .pre .0)
+sized : (c : tie.Start) → SideFits (c .args .n)
+sized c = side-fits (c .args .n) (c .pre .0)
 
 int-to-float-clamp : tie.Need-int-to-float-clamp
 int-to-float-clamp c = counted _ (le-trans (sized (c .before) .most) (lit≤ tt))

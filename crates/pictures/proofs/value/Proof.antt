@@ -1,19 +1,20 @@
 -- `pictures::value` meets its contract: both places lie on their sides, so the four bytes lie in the picture, and each callee's answer is the definition's part. Assumes nothing.
 use mathlib.Core.Path.{_∙_}
 use borrow.Author.Needs.{needs}
+use lib.ListN.{length}
 use Rattle.pictures.specs.Bilinear.{valueAt}
 use Rattle.pictures.proofs.Shapes.{whole}
-use Rattle.pictures.proofs.Places.{Placed, placed}
+use Rattle.pictures.proofs.Places.{PlacedIn, placed}
 use Rattle.pictures.proofs.value.Statement.{statement}
 use Rattle.pictures.proofs.value.Tie as tie
 
 place-on-side-requires : tie.Need-place-on-side-requires
-place-on-side-requires c κs = (whole _ _ _ (c .before .pre .good) .wide, c .before .pre .x-is)
+place-on-side-requires c κs = let a = c .before .args in (whole (length (a .pic .now)) (a .width) (a .height) (c .before .pre .good) .wide, c .before .pre .x-is)
 
 place-on-side-requires-2 : tie.Need-place-on-side-requires-2
-place-on-side-requires-2 c κs = (whole _ _ _ (c .before .before .pre .good) .high, c .before .before .pre .y-is)
+place-on-side-requires-2 c κs = let a = c .before .before .args in (whole (length (a .pic .now)) (a .width) (a .height) (c .before .before .pre .good) .high, c .before .before .pre .y-is)
 
-inside : (c : tie.After-place-on-side2) → Placed (c .before .before .before .args .pic .now) (c .before .before .before .args .width) (c .before .before .before .args .height) (c .before .place-on-side .result) (c .place-on-side2 .result)
+inside : (c : tie.After-place-on-side2) → PlacedIn (c .before .before .before .args .pic .now) (c .before .before .before .args .width) (c .before .before .before .args .height) (c .before .place-on-side .result) (c .place-on-side2 .result)
 inside c = placed _ _ _ _ _ _ _ (c .before .before .before .pre) (c .before .place-on-side .ensures) (c .place-on-side2 .ensures)
 
 byte-inside-requires : tie.Need-byte-inside-requires

@@ -14,6 +14,9 @@ back-first z = toZ-ofZ w32 (z .args .min-disparity) (z .fits .min-disparity)
 back-count : (z : tie.Start) → toZ w32 (ofZ w32 (z .args .num-disparities)) ≡ z .args .num-disparities
 back-count z = toZ-ofZ w32 (z .args .num-disparities) (z .fits .num-disparities)
 
+of-flag-requires : tie.Need-of-flag-requires
+of-flag-requires c κs = search needs
+
 match-block-requires : tie.Need-match-block-requires
 match-block-requires c κs = search needs
 
@@ -27,8 +30,11 @@ same-length-3 : tie.Need-same-length-3
 same-length-3 c = search needs
 
 returns : tie.Need-returns
-returns c = let z = c .before .before .before .before .before .before .before .before .before .before .before .before .before .before .before in rw (back-first z, back-count z) at (c .before .before .before .before .before .before .match-block .ensures)
+returns c =
+    let m = c .before .before .before .before .before .before in
+    let z = m .before .before .before .before .before .before .before .before .before .before in
+    rw (back-first z, back-count z, m .before .before .before .before .of-flag .ensures) at (m .match-block .ensures)
 
 pub plombrisa-match-block-spec : {M : Type 1} → statement M
 plombrisa-match-block-spec =
-    tie.close (tie.spec match-block-requires same-length same-length-2 same-length-3 returns)
+    tie.close (tie.spec of-flag-requires match-block-requires same-length same-length-2 same-length-3 returns)

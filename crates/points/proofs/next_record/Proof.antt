@@ -44,14 +44,14 @@ loop-again c =
     let inv = c .before .before .before .loop .inv in
     (omega (arith, points-same (c .before .before .before .before .before .args .cells .now) (c .before .before .before .loop .i) b no, inv .0), inv .1 ∙ records-same _ _ b _ _ no)
 
-mul-record-of : tie.Need-mul-record-of Inv-loop μ-loop
-mul-record-of c = let b = there (c .before .before .before) in search needs
+mul-point-record : tie.Need-mul-point-record Inv-loop μ-loop
+mul-point-record c = let b = there (c .before .before .before) in search needs
 
-shared-slice-read-record-of : tie.Need-shared-slice-read-record-of Inv-loop μ-loop
-shared-slice-read-record-of c = there (c .before .before .before .before)
+shared-slice-read-point-record : tie.Need-shared-slice-read-point-record Inv-loop μ-loop
+shared-slice-read-point-record c = there (c .before .before .before .before)
 
-record-of-requires : tie.Need-record-of-requires Inv-loop μ-loop
-record-of-requires c κs =
+point-record-requires : tie.Need-point-record-requires Inv-loop μ-loop
+point-record-requires c κs =
     let b = there (c .before .before .before .before) in
     let pre = c .before .before .before .before .before .before .pre in
     (pre .0, (omega (arith, pre .1 .0), positive-finite _ (passed (c .before .before .is-point .ensures) (c .before .if1 .left))))
@@ -63,7 +63,7 @@ returns : tie.Need-returns Inv-loop μ-loop
 returns c =
     let b = there (c .before .before .before .before .before) in
     let yes = passed (c .before .before .before .is-point .ensures) (c .before .before .if1 .left) in
-    rw (c .record-of .ensures) (c .before .before .before .before .before .loop .inv .1 ∙ records-more _ _ b _ _ yes)
+    rw (c .point-record .ensures) (c .before .before .before .before .before .loop .inv .1 ∙ records-more _ _ b _ _ yes)
 
 pub next-record-spec : {M : Type 1} → statement M
 next-record-spec =
@@ -78,8 +78,8 @@ next-record-spec =
     add-i
     loop-less
     loop-again
-    mul-record-of
-    shared-slice-read-record-of
-    record-of-requires
+    mul-point-record
+    shared-slice-read-point-record
+    point-record-requires
     add-t12
     returns)

@@ -1,97 +1,30 @@
--- `points::planned` meets its contract: each test picks the definition's case. Assumes nothing.
-use mathlib.Core.Path.{refl, sym}
+-- `points::planned` meets its contract: a refusal has no record to write, and else there are as many as points. Assumes nothing.
+use mathlib.Core.Path.{sym, ap, _∙_}
 use borrow.Author.Needs.{needs}
-use borrow.Author.Tests.{le-leb, lt-leb}
-use Rattle.points.specs.Records.{answerOf}
-use Rattle.points.proofs.Facts.{failed, passed}
+use Rattle.refusals.proofs.Cases.{answer-made, answer-refused, after-none, after-refused}
+use Rattle.points.specs.declared.Filled.the-variants.{Written}
+use Rattle.points.specs.Records.{filledFor}
 use Rattle.points.proofs.planned.Statement.{statement}
 use Rattle.points.proofs.planned.Tie as tie
-
-camera-good-requires : tie.Need-camera-good-requires
-camera-good-requires c κs = search needs
-
-refused-requires : tie.Need-refused-requires
-refused-requires c κs = search needs
-
-returns : tie.Need-returns
-unfolding answerOf
-returns c = rw (failed (c .before .before .camera-good .ensures) (c .before .if1 .taken)) (c .refused .ensures)
-
-baseline-good-requires : tie.Need-baseline-good-requires
-baseline-good-requires c κs = search needs
-
-refused-requires-2 : tie.Need-refused-requires-2
-refused-requires-2 c κs = search needs
-
-returns-2 : tie.Need-returns-2
-unfolding answerOf
-returns-2 c =
-    rw (
-      passed (c .before .before .before .before .camera-good .ensures) (c .before .before .before .if1 .left),
-      failed (c .before .before .baseline-good .ensures) (c .before .if2 .taken),
-    )
-    (c .refused2 .ensures)
-
-size-good-requires : tie.Need-size-good-requires
-size-good-requires c κs = search needs
-
-refused-requires-3 : tie.Need-refused-requires-3
-refused-requires-3 c κs = search needs
-
-returns-3 : tie.Need-returns-3
-unfolding answerOf
-returns-3 c =
-    rw (
-      passed (c .before .before .before .before .before .before .camera-good .ensures) (c .before .before .before .before .before .if1 .left),
-      passed (c .before .before .before .before .baseline-good .ensures) (c .before .before .before .if2 .left),
-      failed (c .before .before .size-good .ensures) (c .before .if3 .taken),
-    )
-    (c .refused3 .ensures)
 
 points-in-requires : tie.Need-points-in-requires
 points-in-requires c κs = search needs
 
-refused-requires-4 : tie.Need-refused-requires-4
-refused-requires-4 c κs = search needs
+point-refusal-requires : tie.Need-point-refusal-requires
+point-refusal-requires c κs = c .points-in .ensures
 
-returns-4 : tie.Need-returns-4
-unfolding answerOf
-returns-4 c =
-    rw (
-      passed (c .before .before .before .before .before .before .before .before .camera-good .ensures) (c .before .before .before .before .before .before .before .if1 .left),
-      passed (c .before .before .before .before .before .before .baseline-good .ensures) (c .before .before .before .before .before .if2 .left),
-      passed (c .before .before .before .before .size-good .ensures) (c .before .before .before .if3 .left),
-      sym (c .before .before .points-in .ensures),
-      lt-leb _ _ (c .before .if4 .taken),
-    )
-    (c .refused4 .ensures)
+returns : tie.Need-returns
+unfolding filledFor
+returns c =
+    let number = c .before .point-refusal .ensures in
+    (answer-refused _ _ number (c .if1 .taken), sym (after-refused _ _ _ (rw number at (c .if1 .taken))))
 
-returns-5 : tie.Need-returns-5
-unfolding answerOf
-returns-5 c =
-    rw (
-      passed (c .before .before .before .before .before .before .before .camera-good .ensures) (c .before .before .before .before .before .before .if1 .left),
-      passed (c .before .before .before .before .before .baseline-good .ensures) (c .before .before .before .before .if2 .left),
-      passed (c .before .before .before .size-good .ensures) (c .before .before .if3 .left),
-      sym (c .before .points-in .ensures),
-      le-leb _ _ (c .if4 .left),
-    )
-    (refl, refl)
+returns-2 : tie.Need-returns-2
+unfolding filledFor
+returns-2 c =
+    let number = c .before .point-refusal .ensures in
+    let count = c .before .before .points-in .ensures in
+    (ap Written count ∙ answer-made _ _ number (c .if1 .left), count ∙ sym (after-none _ _ _ (sym number ∙ c .if1 .left)))
 
 pub planned-spec : {M : Type 1} → statement M
-planned-spec =
-    tie.close
-    (tie.spec
-    camera-good-requires
-    refused-requires
-    returns
-    baseline-good-requires
-    refused-requires-2
-    returns-2
-    size-good-requires
-    refused-requires-3
-    returns-3
-    points-in-requires
-    refused-requires-4
-    returns-4
-    returns-5)
+planned-spec = tie.close (tie.spec points-in-requires point-refusal-requires returns returns-2)

@@ -55,7 +55,9 @@ use denote.Triple.Walked.{says, Stays, stay-slice, stay-none, stay-none-slice, w
 use denote.Exit.{yes}
 use denote.Triple.Clauses.{ensured, lasts}
 use Rattle.options.specs.Limits.{sideMost}
-use Rattle.points.specs.Records.{pointsIn, recordsFrom, answerOf, countOf, listAfter}
+use Rattle.refusals.specs.Answered.{firstOf}
+use Rattle.refusals.specs.Outcome.{after}
+use Rattle.points.specs.Records.{pointsIn, recordsFrom, pointRows, filledFor, listAfter}
 use Rattle.points.specs.declared.Intrinsics.{Intrinsics}
 use Rattle.points.specs.declared.PointRecord.{PointRecord}
 use Rattle.points.specs.declared.Plan.{Plan}
@@ -155,7 +157,7 @@ module _ {M : Type 1} (𝓤 : URA M) (H : Heap 𝓤) (A : Atoms 𝓤) (W : Given
   Obs zs = fobs γ (codedHoleys R.the-row .code (heres R.the-row zs))
 
   abbrev answered : Filled
-  answered = answerOf w h (now s) k (length ys)
+  answered = filledFor w h (now s) k (length ys)
 
   -- what is had at entry, taken apart
   opened : ent 𝓤 (onEntry 𝓤 H A points.signature κs qs a vals) (⋆ 𝓤 H A (Tok ∷ ‵ Own ∷ ‵ (flft κ q) ∷ ‵ (fbor κ (Held R.the-row (length ys) b o γ)) ∷ ‵ (Obs ys) ∷ []))
@@ -183,7 +185,7 @@ module _ {M : Type 1} (𝓤 : URA M) (H : Heap 𝓤) (A : Atoms 𝓤) (W : Given
 
   -- what is known of the plan
   abbrev PlanSays : Plan → Type 0
-  PlanSays p = (p .answer ≡ answered) × (p .count ≡ countOf answered)
+  PlanSays p = (p .answer ≡ answered) × (p .count ≡ after (firstOf (pointRows w h (now s) k (length ys))) (pointsIn (now s)) 0)
 
   plan-said : (p : Plan) → ent 𝓤 (ensured 𝓤 H A planned.ended (planned.clauses 𝓤 H A mem run) (κ′, tt) plan-args tt p) (fact 𝓤 (PlanSays p))
   plan-said p = exE 𝓤 _ (λ ws. snd∗ 𝓤 (sem 𝓤 H A (lasts planned.ended (κ′, tt) plan-args ws)) (fact 𝓤 (PlanSays p)))
@@ -215,7 +217,7 @@ module _ {M : Type 1} (𝓤 : URA M) (H : Heap 𝓤) (A : Atoms 𝓤) (W : Given
       → ent 𝓤 (⋆ 𝓤 H A (‵ (Obs zs) ∷ ‵ (fbor κ (Held R.the-row (length zs) b o γ)) ∷ ‵ (flft κ q) ∷ Tok ∷ ‵ Own ∷ [])) (Post u)
   exits r u zs is e l long =
       qed W (‵ (Obs zs) ∷ ‵ (fbor κ (Held R.the-row (length zs) b o γ)) ∷ ‵ (flft κ q) ∷ Tok ∷ ‵ Own ∷ []) ∵
-      suffices ! _ (ends-at 𝓤 H A points.ended stayed (points.clauses 𝓤 H A mem run) W bound u r (zs, (tt, (tt, (tt, (tt, tt))))) (long, (tt, (tt, (tt, (tt, tt)))))) $ says ! (e, l) $
+      suffices ! _ (ends-at 𝓤 H A points.ended stayed (points.clauses 𝓤 H A mem run) W bound u r (zs, (tt, (tt, (tt, (tt, tt))))) (long, (tt, (tt, (tt, (tt, tt)))))) $ says ! (record { answer = e; lists = l }) $
       move ! (2 ∷ 3 ∷ []) $ join ! $ frame ! $
       -- [obs; the borrow; what the cells own]
       fjoin ! $ pureI ! (at-slice R.the-row (x zs) (list-val ∷ [])) (tt, (tt, tt)) (ap (λ (m : ℕ). sliceVal (b, o) m ∷ []) (sym long), subst (Room R.the-row) (sym long) room) $ fjoin ! $

@@ -1,5 +1,5 @@
 -- `replay::number` is safe: no NaN's pattern is taken. Assumes nothing.
-use Prim.Native.Nat.{ℕ, _≤_, _<_, _%_, _*_, _/_, _^_}
+use Prim.Native.Nat.{ℕ, _≤_, _%_, _*_, _/_, _^_}
 use mathlib.Core.Path.{_≡_, refl}
 use mathlib.Core.Bool.{Bool, true, false, not, _&&_, false≢true}
 use native.Mathlib.Omega.{arith}

@@ -49,13 +49,14 @@ use denote.Triple.Table.{entered, cited}
 use denote.Triple.Walked.{says, Stay, Stays, stay-slice, stay-dropped, gave-slice, walkOf, Goes, goes-slice, goes-dropped, goes-gave-slice, Walks, ends-at, walked, walk-meets}
 use denote.Triple.Clauses.{ensured, lasts}
 use denote.Exit.{yes}
-use Rattle.rows.specs.Index.{after, editRefusal, cellsAfter, indexAfter, EditDone}
-use Rattle.rows.specs.Answers.{rowAfter}
+use Rattle.refusals.specs.Outcome.{after}
+use Rattle.refusals.proofs.Cases.{after-refused}
+use Rattle.rows.specs.Index.{editRefusal, cellsAfter, EditOutcome}
+use Rattle.rows.specs.Inner.{rowAfter}
 use Rattle.rows.specs.declared.RowRecord.{RowRecord}
 use Rattle.rows.specs.declared.Edit.{Edit}
 use Rattle.rows.specs.declared.Left.{Left}
 use Rattle.rows.proofs.Accepted.{edit-fits}
-use Rattle.rows.proofs.Steps.{after-refused}
 use Rattle.rows.proofs.RowRecord as R
 use Rattle.rows.proofs.RowRecord.Laws as R′
 use Rattle.rows.proofs.Edit as E
@@ -92,13 +93,12 @@ module _ (w h : ℕ) (cells : List Float) (ys : List RowRecord) (e : Edit) where
       row-in : r .row < length ys
       row-in = let f = edit-fits w h (length cells) (length ys) e accepted in omega (arith, row-is, f .down, f .both .long)
 
-      stored : EditDone (r .answer) w h e cells cells′ ys (set ys (r .row) (r .record))
-      unfolding indexAfter rowAfter
+      stored : EditOutcome (r .answer) w h e cells cells′ ys (set ys (r .row) (r .record))
+      unfolding rowAfter
       stored = record { answer = g .0; map = g .1 .1 .1; records = rw row-is (rw (g .1 .1 .0) (rw accepted refl)) }
 
     -- where it is not the index is as it was
-    refused : (r .answer ≡ 0 → ⊥) → EditDone (r .answer) w h e cells cells′ ys ys
-    unfolding indexAfter
+    refused : (r .answer ≡ 0 → ⊥) → EditOutcome (r .answer) w h e cells cells′ ys ys
     refused other = record { answer = g .0; map = g .1 .1 .1; records = sym (after-refused refusal _ ys (λ z. other (g .0 ∙ z))) }
 
 -- ---- the MIR's types, as the function's locals have them
@@ -207,7 +207,7 @@ module _ {M : Type 1} (𝓤 : URA M) (H : Heap 𝓤) (A : Atoms 𝓤) (W : Given
   Says = MapSays w h (now s) ys e
 
   -- ---- the exit, where the cells are cs and the index is zs
-  exits : (n : ℕ) (cs : List Float) (zs : List RowRecord) → n < 2 ^ 32 → length cs ≡ length (now s) → length zs ≡ length ys → EditDone n w h e (now s) cs ys zs
+  exits : (n : ℕ) (cs : List Float) (zs : List RowRecord) → n < 2 ^ 32 → length cs ≡ length (now s) → length zs ≡ length ys → EditOutcome n w h e (now s) cs ys zs
       → ent 𝓤 (⋆ 𝓤 H A (‵ (Obs zs) ∷ ‵ (Borrowed zs) ∷ ‵ (flft κ q) ∷ Tok ∷ ‵ (finally f32 (name s) cs) ∷ [])) (Post (vint w32 n))
   exits n cs zs fits-n cells-long long d =
       qed W (‵ (Obs zs) ∷ ‵ (Borrowed zs) ∷ ‵ (flft κ q) ∷ Tok ∷ ‵ (finally f32 (name s) cs) ∷ []) ∵
@@ -230,7 +230,7 @@ module _ {M : Type 1} (𝓤 : URA M) (H : Heap 𝓤) (A : Atoms 𝓤) (W : Given
       abbrev At : List RowRecord → List (Item 𝓤)
       At zs = ‵ (Obs zs) ∷ ‵ (Borrowed zs) ∷ ‵ (flft κ q) ∷ Tok ∷ ‵ (finally f32 (name s) cs) ∷ ‵ (froom tyPtr l₁₂ 0) ∷ ‵ (fdies tyPtr l₁₂) ∷ ‵ (froom word l₁₁ 0) ∷ ‵ (fdies word l₁₁) ∷ ‵ (froom tyBool l₁₀ 0) ∷ ‵ (fdies tyBool l₁₀) ∷ ‵ (fat fullShare lent-slice-ty l₉ 0 (cells-val)) ∷ ‵ (fdies lent-slice-ty l₉) ∷ ‵ (fat fullShare lent-ty l₈ 0 (vptr (s .ptr .0) (s .ptr .1))) ∷ ‵ (fdies lent-ty l₈) ∷ ‵ (fat fullShare word l₇ 0 (vint w64 (length ys))) ∷ ‵ (fdies word l₇) ∷ ‵ (fat fullShare D′.mir l₆ 0 (left-val)) ∷ ‵ (fdies D′.mir l₆) ∷ ‵ (fat fullShare E′.mir l₅ 0 (e-val)) ∷ ‵ (fdies E′.mir l₅) ∷ ‵ (fat fullShare cells-ty l₄ 0 (cells-val)) ∷ ‵ (fdies cells-ty l₄) ∷ ‵ (fat fullShare word l₃ 0 (vint w64 h)) ∷ ‵ (fdies word l₃) ∷ ‵ (fat fullShare word l₂ 0 (vint w64 w)) ∷ ‵ (fdies word l₂) ∷ ‵ (fat fullShare index-ty l₁ 0 (index-val)) ∷ ‵ (fdies index-ty l₁) ∷ ‵ (froom answer-ty l₀ 0) ∷ ‵ (fdies answer-ty l₀) ∷ []
 
-      returned : (zs : List RowRecord) → length zs ≡ length ys → EditDone (r .answer) w h e (now s) cs ys zs → Sq W (At zs) (runs C Λ En code-mir.t-7 (atRet En Post))
+      returned : (zs : List RowRecord) → length zs ≡ length ys → EditOutcome (r .answer) w h e (now s) cs ys zs → Sq W (At zs) (runs C Λ En code-mir.t-7 (atRet En Post))
       returned zs long d =
           assigns ! (of-opd ! (load ! (from ! (fld ! refl (stop !))) (look-in ! 17 (sub ! 2 refl (whole !))))) (from ! (stop !)) (init ! 29 refl (tt, record { fits = fits-answer })) $
           returns ! (look ! 29 refl) $ forget ! 11 refl $ forget ! 13 refl $ forget ! 15 refl $ forget ! 17 refl $ forget ! 19 refl $ forget ! 21 refl $ forget ! 23 refl $ forget ! 25 refl $ forget ! 27 refl $ forget ! 29 refl $

@@ -54,7 +54,8 @@ use denote.Triple.Walked.{says, Stays, stay-slice, stay-none, stay-none-slice, w
 use denote.Exit.{yes}
 use denote.Triple.Clauses.{ensured, lasts}
 use Rattle.lists.specs.Rows.{rowOf}
-use Rattle.rows.specs.Index.{recordOf, after, freshRefusal, freshAfter}
+use Rattle.refusals.specs.Outcome.{after}
+use Rattle.rows.specs.Index.{rowRecordOf, freshIndex, freshRefusal}
 use Rattle.rows.specs.declared.RowRecord.{RowRecord}
 use Rattle.rows.specs.declared.Plan.{Plan}
 use Rattle.rows.proofs.Writing.{upto, Ready, ready, Writing, none-yet, kept, one-more, ended}
@@ -196,13 +197,13 @@ module _ {M : Type 1} (𝓤 : URA M) (H : Heap 𝓤) (A : Atoms 𝓤) (W : Given
       owned ! usize (Is usize) (uint-makes 𝓤 H A W w64) w _ (refl, fits-w) $ fjoin ! $ done !
 
   abbrev MadeSays : ℕ → RowRecord → Type 0
-  MadeSays y r = r ≡ recordOf (rowOf w (now s) y)
+  MadeSays y r = r ≡ rowRecordOf (rowOf w (now s) y)
 
   made-said : (y : ℕ) (r : RowRecord) → ent 𝓤 (ensured 𝓤 H A made.ended (made.clauses 𝓤 H A mem run) (κ′, tt) (made-args y) tt r) (fact 𝓤 (MadeSays y r))
   made-said y r = exE 𝓤 _ (λ ws. snd∗ 𝓤 (sem 𝓤 H A (lasts made.ended (κ′, tt) (made-args y) ws)) (fact 𝓤 (MadeSays y r)))
 
   -- ---- the exit, where the index is zs
-  exits : (n : ℕ) (zs : List RowRecord) → n < 2 ^ 32 → n ≡ answered → zs ≡ freshAfter w h (now s) index → length zs ≡ length index
+  exits : (n : ℕ) (zs : List RowRecord) → n < 2 ^ 32 → n ≡ answered → zs ≡ after answered (freshIndex w h (now s)) index → length zs ≡ length index
       → ent 𝓤 (⋆ 𝓤 H A (‵ (Obs zs) ∷ ‵ (fbor κ (Held R.the-row (length zs) b o γ)) ∷ ‵ (flft κ q) ∷ Tok ∷ ‵ Own ∷ [])) (Post (vint w32 n))
   exits n zs fits-n e l long =
       qed W (‵ (Obs zs) ∷ ‵ (fbor κ (Held R.the-row (length zs) b o γ)) ∷ ‵ (flft κ q) ∷ Tok ∷ ‵ Own ∷ []) ∵

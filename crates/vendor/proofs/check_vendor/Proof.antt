@@ -4,11 +4,11 @@ use native.Mathlib.Omega.{arith}
 use denote.Ref.{now}
 use lib.ListN.{length}
 use borrow.Author.Needs.{needs}
-use Rattle.refusals.specs.declared.Call.{Call}
-use Rattle.refusals.proofs.Rows.{products}
+use Rattle.calls.specs.declared.Call.{Call}
+use Rattle.calls.proofs.Rows.{products}
 use Rattle.vendor.specs.Verdict.{checkOf}
 use Rattle.vendor.specs.Outcome.{vendorCall, vendorRefusal}
-use Rattle.vendor.proofs.Outcomes.{Taken, taken, lent, judged, refused, made}
+use Rattle.vendor.proofs.Outcomes.{Taken, taken, lent, judged, refusing, made}
 use Rattle.vendor.proofs.check_vendor.Statement.{statement}
 use Rattle.vendor.proofs.check_vendor.Tie as tie
 
@@ -41,7 +41,7 @@ vendor-refusal-requires : tie.Need-vendor-refusal-requires
 vendor-refusal-requires c κs = search needs
 
 returns : tie.Need-returns
-returns c = refused _ _ _ _ _ _ _ _ _ (refusal-is (c .before)) (c .if1 .taken)
+returns c = refusing _ _ _ _ _ _ _ _ _ (refusal-is (c .before)) (c .if1 .taken)
 
 check-of-requires : tie.Need-check-of-requires
 check-of-requires c κs = let s = left-over c .sizes in record { whole = s .whole; few = s .few }

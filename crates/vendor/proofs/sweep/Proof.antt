@@ -17,7 +17,7 @@ use Rattle.costs.specs.Raw.{shiftOf}
 use Rattle.costs.proofs.Readings.{cells-most, tables-of}
 use Rattle.costs.proofs.Signed.{shift-most}
 use Rattle.vendor.specs.declared.cells.Question.the-variants.{Fit}
-use Rattle.vendor.specs.Verdict.{firstNot}
+use Rattle.lists.specs.Lists.{firstNot}
 use Rattle.vendor.specs.Tests.{holdsAt, shiftAt}
 use Rattle.vendor.proofs.Sweeping.{SweepInv, lent-size, five-parts, sweep-start, limit-most, sweep-again, sweep-done}
 use Rattle.vendor.proofs.sweep.Statement.{statement}

@@ -3,9 +3,10 @@ use Prim.Native.Nat.{_*_}
 use mathlib.Core.Path.{_≡_, sym, ap₂, _∙_}
 use native.Mathlib.Omega.{arith}
 use borrow.Author.Needs.{needs}
-use Rattle.refusals.specs.Refusals.{firstOf, pairRows}
-use Rattle.refusals.specs.Accepted.{Sizes}
-use Rattle.refusals.proofs.Rows.{Products, products, sizes}
+use Rattle.refusals.specs.Answered.{firstOf}
+use Rattle.calls.specs.Refusals.{pairRows}
+use Rattle.calls.specs.Accepted.{Sizes}
+use Rattle.calls.proofs.Rows.{Products, products, sizes}
 use Rattle.vendor.proofs.Outcomes.{by-pair, not-wide, not-high, not-full, not-long, nothing}
 use Rattle.vendor.proofs.vendor_refusal.Statement.{statement}
 use Rattle.vendor.proofs.vendor_refusal.Tie as tie

@@ -1,9 +1,8 @@
 -- `windows::fill_levels` meets its contract: the table's rows, one after the other. Assumes nothing.
-use Prim.Native.Nat.{ℕ, _≤_, _<_, _-_, _+_}
-use mathlib.Core.Path.{_≡_, refl, sym, ap, _∙_}
+use Prim.Native.Nat.{ℕ, _≤_, _-_}
+use mathlib.Core.Path.{sym, ap, _∙_}
 use native.Mathlib.Omega.{arith}
 use borrow.Author.Needs.{needs}
-use lib.ListN.{length}
 use Rattle.lists.specs.Rows.{levelAt}
 use Rattle.windows.specs.Table.{levelIn}
 use Rattle.windows.proofs.Tables.{TableInv, Spots, spots, lent-row, level-small, first-fits, first-row, table-start, table-ready, table-again, table-done}

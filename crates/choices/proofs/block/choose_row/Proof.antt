@@ -1,4 +1,4 @@
--- `choices::block::choose_row` meets its contract. Assumes nothing.
+-- `choices::block::choose_row` meets its contract: cleared and blank, the rows are those of no index; blank again, those of no competitor. Assumes nothing.
 use denote.Ref.{now}
 use borrow.Author.Needs.{needs}
 use Rattle.choices.proofs.LedRows.{led-start, rival-start}
@@ -21,7 +21,7 @@ lead-row-requires c κs =
     let blank = clear .before .before in
     let start = blank .before .before .before in
     let a = start .args in
-    (start .pre .0, led-start (a .row) (a .search) (now (a .raw)) (now (a .work)) _ _ _ (start .pre .1 .1 .1) (clear .clear-f32 .ensures) (fill .fill-first .ensures) (blank .stored .ensures))
+    (start .pre .0, led-start (a .row) (a .search) (now (a .raw)) (now (a .work)) _ _ _ (start .pre .1 .1) (clear .clear-f32 .ensures) (fill .fill-first .ensures) (blank .stored .ensures))
 
 fill-first-requires-2 : tie.Need-fill-first-requires-2
 fill-first-requires-2 c κs = search needs

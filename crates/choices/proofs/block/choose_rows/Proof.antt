@@ -1,11 +1,9 @@
--- `choices::block::choose_rows` meets its contract. Assumes nothing.
+-- `choices::block::choose_rows` meets its contract: before row y the rows below y are the map's; the rows that are left fall. Assumes nothing.
 use Prim.Native.Nat.{_-_}
-use mathlib.Core.Path.{_≡_, refl, sym, _∙_, ap}
+use mathlib.Core.Path.{_≡_, sym, _∙_}
 use native.Mathlib.Omega.{arith}
-use lib.ListN.{length}
 use denote.Ref.{now}
 use borrow.Author.Needs.{needs}
-use Rattle.choices.specs.Seen.{MapIn}
 use Rattle.choices.specs.RowChoice.{chosenAt}
 use Rattle.choices.proofs.MapRows.{RowsInv, Rows, rows, rows-next, row-cell, lent-long, row-of-map}
 use Rattle.choices.proofs.block.choose_rows.Statement.{statement}
@@ -54,8 +52,7 @@ choose-row-requires : tie.Need-choose-row-requires Inv-loop μ-loop
 choose-row-requires c κs =
     let turn = c .before in
     let start = turn .before .before .before .before in
-    let z = start .pre .0 in
-    (row-of-map _ _ _ _ _ _ _ z (turn .loop-test .taken), (start .pre .1 .0, (omega (arith, z .across), lent-long _ _ _ _ _ _ (turn .before .loop .inv) (here turn) (turn .loop-test .taken))))
+    (row-of-map _ _ _ _ _ _ _ (start .pre .0) (turn .loop-test .taken), (start .pre .1 .0, lent-long _ _ _ _ _ _ (turn .before .loop .inv) (here turn) (turn .loop-test .taken)))
 
 add-y : tie.Need-add-y Inv-loop μ-loop
 add-y c = search needs

@@ -1,4 +1,4 @@
--- `choices::block::finish_row` meets its contract. Assumes nothing.
+-- `choices::block::finish_row` meets its contract: before column x the columns below x hold their choices, the others their competitors; the columns that are left fall. Assumes nothing.
 use Prim.Native.Nat.{_-_}
 use mathlib.Core.Path.{sym, _∙_, ap}
 use native.Mathlib.Omega.{arith}
@@ -18,7 +18,7 @@ abbrev μ-loop : tie.MeasureT-loop
 μ-loop work₀ raw row r search gates w x₀ work x = row .w - x
 
 loop-holds : tie.Need-loop-holds Inv-loop μ-loop
-loop-holds c = finish-none _ _ _ _ _ _ (c .before .before .pre .1 .1 .1)
+loop-holds c = finish-none _ _ _ _ _ _ (c .before .before .pre .1 .1)
 
 mul-of-cell : tie.Need-mul-of-cell Inv-loop μ-loop
 mul-of-cell c = search needs
@@ -45,7 +45,7 @@ column-cell-requires c κs =
     let start = at .before .before .before in
     let rival = finish-rival _ _ _ _ _ _ _ (at .loop .inv) (turn .loop-test .taken) in
     let index = finish-index _ _ _ _ _ _ _ (at .loop .inv) (turn .loop-test .taken) in
-    (start .pre .0, (start .pre .1 .0, (start .pre .1 .1 .0, (turn .loop-test .taken, (index, c .before .of-cell .ensures ∙ ap rawOf rival)))))
+    (start .pre .0, (start .pre .1 .0, (turn .loop-test .taken, (index, c .before .of-cell .ensures ∙ ap rawOf rival))))
 
 stored-requires : tie.Need-stored-requires Inv-loop μ-loop
 stored-requires c κs = search needs
@@ -68,7 +68,7 @@ loop-again c =
     finish-next _ _ _ _ _ _ _ (turn .before .loop .inv) (turn .loop-test .taken) _ (c .stored .ensures ∙ ap inBuffer (c .before .column-cell .ensures))
 
 same-length : tie.Need-same-length Inv-loop μ-loop
-same-length c = let start = c .before .before .before .before in c .before .loop .inv .long ∙ sym (ap length (start .pre .1 .1 .1) ∙ halves-length (start .args .row .w) _ _)
+same-length c = let start = c .before .before .before .before in c .before .loop .inv .long ∙ sym (ap length (start .pre .1 .1) ∙ halves-length (start .args .row .w) _ _)
 
 returns : tie.Need-returns Inv-loop μ-loop
 returns c = finish-done _ _ _ _ _ _ _ (c .before .loop .inv) (c .loop-test .left)

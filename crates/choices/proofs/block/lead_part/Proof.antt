@@ -1,11 +1,10 @@
--- `choices::block::lead_part` meets its contract. Assumes nothing.
-use Prim.Native.Nat.{_+_, _-_, _^_}
-use mathlib.Core.Path.{_≡_, refl, sym, _∙_}
+-- `choices::block::lead_part` meets its contract: after i numbers the two rows are led by those alone; the numbers that are left fall. Assumes nothing.
+use Prim.Native.Nat.{_-_, _^_}
+use mathlib.Core.Path.{refl, sym, _∙_}
 use native.Mathlib.Omega.{arith}
 use lib.Dec.{le→leb}
 use lib.Ieee.{inFloat}
 use lib.ListN.{length-set}
-use denote.Ref.{now}
 use borrow.Author.Needs.{needs}
 use Rattle.choices.specs.Leading.{ledBy}
 use Rattle.choices.proofs.Stepping.{upTo}

@@ -1,9 +1,8 @@
--- `choices::block::rival_index` meets its contract. Assumes nothing.
-use mathlib.Core.Path.{_≡_, _∙_, refl, sym, ap}
+-- `choices::block::rival_index` meets its contract: the part that is lent holds the cells of index k. Assumes nothing.
+use mathlib.Core.Path.{_∙_}
 use native.Mathlib.Omega.{arith}
 use denote.Ref.{now}
 use borrow.Author.Needs.{needs}
-use Rattle.choices.specs.Seen.{RowIn}
 use Rattle.choices.proofs.Spans.{Lent, lent}
 use Rattle.choices.proofs.LedRows.{rivalled-same}
 use Rattle.choices.proofs.block.rival_index.Statement.{statement}

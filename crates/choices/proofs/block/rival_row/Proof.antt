@@ -1,6 +1,6 @@
--- `choices::block::rival_row` meets its contract. Assumes nothing.
+-- `choices::block::rival_row` meets its contract: before index k the competitors are those below k; the indices that are left fall. Assumes nothing.
 use Prim.Native.Nat.{_≤_, _-_}
-use mathlib.Core.Path.{_≡_, _∙_, refl, sym, ap}
+use mathlib.Core.Path.{_≡_, _∙_, sym, ap}
 use native.Mathlib.Omega.{arith}
 use lib.ListN.{length}
 use denote.Ref.{now}

@@ -1,15 +1,11 @@
--- `choices::block::select_block` meets its contract. Assumes nothing.
-use Prim.Native.Nat.{_-_, _*_}
-use mathlib.Core.Path.{_≡_, refl, sym, _∙_, ap}
-use mathlib.Core.List.{map}
+-- `choices::block::select_block` meets its contract: marks above, the rows inside the frame, marks below. Assumes nothing.
+use mathlib.Core.Path.{sym, _∙_}
 use native.Mathlib.Omega.{arith}
-use lib.ListN.{length}
 use denote.Ref.{now}
 use borrow.Author.Needs.{needs}
-use Rattle.lists.specs.Lists.{listOf}
 use Rattle.lists.proofs.Lists.{map-listOf}
 use Rattle.maps.specs.Cells.{inBuffer}
-use Rattle.choices.specs.Block.{blockCell, blockMap}
+use Rattle.choices.specs.Block.{blockMap}
 use Rattle.choices.specs.RowChoice.{chosenAt}
 use Rattle.choices.proofs.MapRows.{bands, above-marked, below-marked, marked-first, marked-last}
 use Rattle.choices.proofs.block.select_block.Statement.{statement}

@@ -1,4 +1,4 @@
--- `choices::left_right::is_confirmed` meets its contract. Assumes nothing.
+-- `choices::left_right::is_confirmed` meets its contract: past both tests the column is an index of the row. Assumes nothing.
 use Prim.Native.Nat.{_<_, _≤_, _*_, _+_, _/_, _%_, _^_}
 use native.Mathlib.Omega.{arith}
 use native.Mathlib.Nat.{mod-lt, mul-comm}
@@ -25,7 +25,7 @@ unfolding ofBits
 index c =
     let start = c .before .before .before .before .before .before in
     let round = c .before .before .before in
-    column-index _ _ (wide start) (start .pre .1 .0)
+    column-index _ _ (wide start) (omega (arith, start .pre .1 .0))
     (rw (round .round-half-away .ensures) (column-number (start .args .p % start .args .w) (start .args .d) (short start) (start .pre .1 .1 .1)))
     (c .before .before .if1 .left) (c .if2 .left)
 

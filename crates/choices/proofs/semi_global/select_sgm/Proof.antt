@@ -1,4 +1,4 @@
--- `choices::semi_global::select_sgm` meets its contract. Assumes nothing.
+-- `choices::semi_global::select_sgm` meets its contract: before pixel p the first p cells are the map's; the cells that are left fall. Assumes nothing.
 use Prim.Native.Nat.{ℕ, _≤_, _<_, _-_, _*_}
 use mathlib.Core.List.{List, _++_}
 use mathlib.Core.Path.{_≡_, refl, sym, _∙_}
@@ -34,7 +34,7 @@ semi-cell-requires : tie.Need-semi-cell-requires Inv-loop μ-loop
 semi-cell-requires c κs =
     let start = c .before .before .before .before in
     let pre = start .pre in
-    (omega arith, (pre .1 .0, (pre .1 .1 .0, (pre .1 .1 .1 .0, pre .1 .1 .1 .1))))
+    (omega arith, (pre .1 .0, (pre .1 .1 .0, pre .1 .1 .1)))
 
 stored-requires : tie.Need-stored-requires Inv-loop μ-loop
 stored-requires c κs = search needs

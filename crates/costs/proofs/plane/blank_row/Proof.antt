@@ -1,5 +1,5 @@
--- `costs::plane::blank_row` meets its contract. Assumes nothing.
-use mathlib.Core.Path.{_≡_, sym, ap, _∙_}
+-- `costs::plane::blank_row` meets its contract: all cells are filled, and with negative infinity. Assumes nothing.
+use mathlib.Core.Path.{sym, ap, _∙_}
 use mathlib.Core.Bool.{true}
 use denote.Ref.{now}
 use lib.Ieee.{Float, inf}

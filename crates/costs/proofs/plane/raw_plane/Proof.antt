@@ -1,6 +1,6 @@
 -- `costs::plane::raw_plane` meets its contract: after y turns the plane's first y rows are filled. Assumes nothing.
-use Prim.Native.Nat.{ℕ, _+_, _-_, _*_, _≤_, _<_}
-use mathlib.Core.Path.{_≡_, refl, sym, ap, _∙_, subst}
+use Prim.Native.Nat.{ℕ, _+_, _-_, _*_, _≤_}
+use mathlib.Core.Path.{_≡_, refl, sym, _∙_, subst}
 use mathlib.Core.List.{List, _++_}
 use native.Mathlib.Nat.{zero-mul, mul-comm, le-antisymm}
 use native.Mathlib.Omega.{arith}
@@ -14,7 +14,7 @@ use mir.Val.{toZ, ofZ}
 use mir.ValLaws.{toZ-ofZ}
 use Rattle.options.specs.Limits.{sideMost}
 use Rattle.lists.specs.Lists.{listOf}
-use Rattle.costs.specs.Rooms.{RoomOf, Ready}
+use Rattle.costs.specs.Rooms.{RoomOf}
 use Rattle.costs.specs.Volume.{planeCell, planeCells}
 use Rattle.lists.proofs.Lists.{filled-end}
 use Rattle.costs.proofs.Planes.{part-fits, area-most, part-length, next-part, row-part}

@@ -1,6 +1,6 @@
 -- `costs::raw::counted` meets its contract: the remainder is the number. Assumes nothing.
 use Prim.Native.Nat.{ℕ}
-use mathlib.Core.Path.{_≡_, ap}
+use mathlib.Core.Path.{ap}
 use native.Mathlib.Nat.{mod-eq-of-lt}
 use lib.IntN.{pos}
 use lib.Ieee.{binary64, ofInt}

@@ -1,6 +1,5 @@
 -- `costs::raw::covariance` meets its contract: f64 counts the two products and their difference. Assumes nothing.
-use Prim.Native.Nat.{_*_, _^_, _≤_}
-use mathlib.Core.Path.{_≡_}
+use Prim.Native.Nat.{_*_}
 use native.Mathlib.Omega.{arith}
 use borrow.Author.Needs.{needs}
 use Rattle.numbers.proofs.Whole.{whole-product, whole-difference}

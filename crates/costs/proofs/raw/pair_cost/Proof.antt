@@ -1,6 +1,6 @@
 -- `costs::raw::pair_cost` meets its contract: the sum of products is read from its table, and the cost from the others. Assumes nothing.
 use native.Mathlib.Omega.{arith}
-use Rattle.costs.proofs.Readings.{tables-of, long}
+use Rattle.costs.proofs.Readings.{tables-of}
 use Rattle.costs.proofs.PairCosts.{spots-in, corners-both, sum-both, summed}
 use borrow.Author.Needs.{needs}
 use Rattle.costs.proofs.raw.pair_cost.Statement.{statement}

@@ -1,12 +1,12 @@
 -- `costs::tables::fill_picture` meets its contract: the loop's first i cells of either table are sums and roots, and the rest are levels and squares. Assumes nothing.
-use Prim.Native.Nat.{_+_, _-_, _*_, _≤_, _<_}
+use Prim.Native.Nat.{_+_, _-_, _*_, _<_}
 use mathlib.Core.Path.{_≡_, sym, _∙_}
 use native.Mathlib.Omega.{arith}
 use borrow.Author.Needs.{needs}
 use denote.Ref.{now}
 use lib.ListN.{length, length-set}
 use Rattle.windows.specs.Window.{cells}
-use Rattle.costs.specs.Rooms.{Picture, Turning, Turned}
+use Rattle.costs.specs.Rooms.{Picture, TablesFrom, TablesTurned}
 use Rattle.costs.proofs.Turns.{TurnInv, turn-start, turn-length, turning, turn-again, turn-done}
 use Rattle.costs.proofs.tables.fill_picture.Statement.{statement}
 use Rattle.costs.proofs.tables.fill_picture.Tie as tie
@@ -69,10 +69,10 @@ loop-holds c =
     turn-start _ _ _ _ _ _ _ (z .pre .cells-of) (c .before .before .before .before .before .before .fill-levels .ensures) (c .before .before .fill-squares .ensures)
 
 -- the tables that are left from cell i on
-left-over : (c : tie.In-loop Inv-loop μ-loop) → Turning (c .before .loop .pair) (c .before .before .before .before .before .before .before .before .before .before .before .before .args .w) (c .before .before .before .before .before .before .before .before .before .before .before .before .args .h) (c .before .loop .i) (now (c .before .before .before .before .before .before .before .before .before .before .before .before .args .pic))
+left-over : (c : tie.In-loop Inv-loop μ-loop) → TablesFrom (c .before .loop .pair) (c .before .before .before .before .before .before .before .before .before .before .before .before .args .w) (c .before .before .before .before .before .before .before .before .before .before .before .before .args .h) (c .before .loop .i) (now (c .before .before .before .before .before .before .before .before .before .before .before .before .args .pic))
 left-over c = turning _ _ _ _ _ _ (c .before .loop .inv) (picture (c .before))
 
-held : (c : tie.In-loop Inv-loop μ-loop) → Turned (c .before .loop .pair) (c .before .before .before .before .before .before .before .before .before .before .before .before .args .w) (c .before .before .before .before .before .before .before .before .before .before .before .before .args .h) (c .before .before .before .before .before .before .before .before .before .before .before .before .args .r) (c .before .loop .i)
+held : (c : tie.In-loop Inv-loop μ-loop) → TablesTurned (c .before .loop .pair) (c .before .before .before .before .before .before .before .before .before .before .before .before .args .w) (c .before .before .before .before .before .before .before .before .before .before .before .before .args .h) (c .before .before .before .before .before .before .before .before .before .before .before .before .args .r) (c .before .loop .i)
 held c =
     let z = c .before .before .before .before .before .before .before .before .before .before .before .before in
     record { pic = now (z .args .pic); frame = z .pre .frame; among = c .loop-test .taken; held = left-over c }

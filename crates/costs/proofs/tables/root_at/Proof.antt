@@ -1,6 +1,6 @@
--- `costs::tables::root_at` meets its contract. Assumes nothing.
+-- `costs::tables::root_at` meets its contract: where a window fits, its variance is below 2^53. Assumes nothing.
 use Prim.Native.Nat.{_+_, _*_, _^_, _≤_, _<_}
-use mathlib.Core.Path.{_≡_, ap, _∙_}
+use mathlib.Core.Path.{ap, _∙_}
 use native.Mathlib.Nat.{mul-le-mul}
 use native.Mathlib.Omega.{arith}
 use Rattle.costs.specs.Raw.{pixels}

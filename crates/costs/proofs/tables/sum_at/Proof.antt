@@ -1,5 +1,4 @@
--- `costs::tables::sum_at` meets its contract. Assumes nothing.
-use Prim.Native.Nat.{_+_, _*_, _≤_, _<_}
+-- `costs::tables::sum_at` meets its contract: where a window fits, its four corners are still the table's. Assumes nothing.
 use native.Mathlib.Omega.{arith}
 use Rattle.costs.specs.Roots.{sumIn}
 use Rattle.costs.proofs.Turns.{column-in, row-in, no-column, no-row, levels-corners, sum-cell}

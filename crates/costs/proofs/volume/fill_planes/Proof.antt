@@ -1,21 +1,19 @@
 -- `costs::volume::fill_planes` meets its contract: after k turns k planes are filled, and the pictures' tables are as they were. Assumes nothing.
-use Prim.Native.Nat.{ℕ, _+_, _-_, _*_, _≤_, _<_}
-use mathlib.Core.Path.{_≡_, refl, sym, ap, _∙_, subst}
-use mathlib.Core.List.{List, _++_}
+use Prim.Native.Nat.{ℕ, _+_, _-_, _*_, _≤_}
+use mathlib.Core.Path.{_≡_, sym, _∙_, subst}
 use native.Mathlib.Nat.{mul-comm, mul-le-mul}
 use native.Mathlib.Omega.{arith}
 use borrow.Author.Needs.{needs}
 use borrow.Rule.Slice.PartMut.{putMid}
 use denote.Ref.{now}
 use lib.IntN.{ℤ, natAbs}
-use lib.ListN.{length, drop}
 use mir.Syntax.{w64}
 use mir.Val.{toZ, ofZ}
 use mir.ValLaws.{toZ-ofZ}
 use Rattle.options.specs.Limits.{sideMost, countMost, firstMost, shiftMost}
 use Rattle.costs.specs.Raw.{shiftOf}
 use Rattle.windows.specs.Window.{cells}
-use Rattle.costs.specs.Rooms.{RoomOf, Ready}
+use Rattle.costs.specs.Rooms.{RoomOf}
 use Rattle.costs.specs.Volume.{planesOf}
 use Rattle.costs.proofs.Readings.{cells-most}
 use Rattle.costs.proofs.Planes.{part-fits, area-most, part-length}

@@ -1,6 +1,6 @@
--- `costs::volume::volume_of` meets its contract. Assumes nothing.
-use Prim.Native.Nat.{ℕ, _/_}
-use mathlib.Core.Path.{_≡_, refl, sym, ap, _∙_, subst}
+-- `costs::volume::volume_of` meets its contract: the signed numbers read back as they are, and either side has its reference first. Assumes nothing.
+use Prim.Native.Nat.{_/_}
+use mathlib.Core.Path.{_≡_, sym, ap, _∙_, subst}
 use mathlib.Core.List.{List}
 use native.Mathlib.Omega.{arith}
 use denote.Ref.{now}
@@ -11,8 +11,6 @@ use lib.Signed.{nonNeg}
 use mir.Syntax.{w32, w64}
 use mir.Val.{SFits, toZ, ofZ}
 use mir.ValLaws.{toZ-ofZ}
-use Rattle.options.specs.declared.Side.{Side}
-use Rattle.options.specs.declared.Side.the-variants.{Left, Right}
 use Rattle.costs.specs.Raw.{referenceOf, targetOf}
 use Rattle.costs.specs.Volume.{planesOf, rawVolume}
 use Rattle.lists.proofs.Sizes.{small-fits}

@@ -1,5 +1,5 @@
 -- `matching::block::blank_map` meets its contract. Assumes nothing.
-use mathlib.Core.Path.{_≡_, sym, ap, _∙_}
+use mathlib.Core.Path.{sym, ap, _∙_}
 use denote.Ref.{now}
 use lib.Ieee.{Float}
 use lib.ListN.{length, replicate}

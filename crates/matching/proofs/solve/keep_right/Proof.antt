@@ -1,10 +1,10 @@
 -- `matching::solve::keep_right` meets its contract. Assumes nothing.
 use denote.Ref.{now}
-use Prim.Native.Nat.{_+_, _*_, _-_, _≤_}
-use mathlib.Core.Path.{_≡_, sym, ap, _∙_}
+use Prim.Native.Nat.{_*_, _-_, _≤_}
+use mathlib.Core.Path.{_≡_, ap, _∙_}
 use native.Mathlib.Omega.{arith}
-use lib.ListN.{length, take, drop}
-use Rattle.matching.specs.Fit.{cellsIn, sideCells}
+use lib.ListN.{length}
+use Rattle.matching.specs.Inner.{cellsIn, sideCells}
 use Rattle.matching.proofs.Tail.{front-length, room-after, tail-put, front-after, front-put}
 use Rattle.matching.proofs.Fitting.{volume-first}
 use borrow.Author.Needs.{needs}
@@ -61,17 +61,18 @@ returns c =
     let e = length (now (z .args .room)) in
     let k = e - z .args .w * z .args .h in
     let l : k ≤ e = omega arith in
-    let same : sideCells (z .args .w) (z .args .h) (z .args .opts) ≡ k = omega (arith, z .pre .1) in
+    let same : sideCells (z .args .w) (z .args .h) (z .args .opts) ≡ k = omega (arith, z .pre .cells) in
     let long = d .kept .1 .1 .1 .1 .1 .1 .1 .1 .0 ∙ front-length k (now (z .args .room)) l in
-    let out = d .kept .1 .1 .1 .1 .1 .1 .0 ∙ z .pre .0 .out-cells in
-    let back : z .args .w * z .args .h ≡ e - k = omega (arith, z .pre .1) in
+    let out = d .kept .1 .1 .1 .1 .1 .1 .0 ∙ z .pre .fits .out-cells in
+    let back : z .args .w * z .args .h ≡ e - k = omega (arith, z .pre .cells) in
     let part = d .last .1 .1 .1 .1 .1 .1 .1 .1 .0 in
     let room = room-after k (now (z .args .room)) l part long in
-    let few : cellsIn (z .args .w) (z .args .h) (z .args .opts) ≤ k = omega (arith, same, volume-first (z .args .w) (z .args .h) (z .args .opts)) in (
-      rw same (tail-put k e _ (p .last .0) l room (ap length (p .ensures) ∙ out ∙ back)) ∙ p .ensures ∙ d .ensures .0,
-      d .ensures .1,
-      front-put _ k e _ (p .last .0) few (omega (arith, room)) ∙ front-after k (now (z .args .room)) l part long _ few ∙ d .ensures .2,
-    )
+    let few : cellsIn (z .args .w) (z .args .h) (z .args .opts) ≤ k = omega (arith, same, volume-first (z .args .w) (z .args .h) (z .args .opts)) in
+    record {
+      map = rw same (tail-put k e _ (p .last .0) l room (ap length (p .ensures) ∙ out ∙ back)) ∙ p .ensures ∙ d .ensures .map;
+      wholes = d .ensures .wholes;
+      kept = front-put _ k e _ (p .last .0) few (omega (arith, room)) ∙ front-after k (now (z .args .room)) l part long _ few ∙ d .ensures .kept;
+    }
 
 pub keep-right-spec : {M : Type 1} → statement M
 keep-right-spec =

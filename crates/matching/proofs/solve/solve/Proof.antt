@@ -22,7 +22,7 @@ same-length-3 c = search needs
 
 returns : tie.Need-returns
 unfolding mapOf
-returns c = let e = c .before .before .before .before .before .before .solve-both .ensures in (e .0 ∙ rw (c .before .before .before .before .before .before .before .before .before .before .if1 .taken), e .1, e .2)
+returns c = let e = c .before .before .before .before .before .before .solve-both .ensures in record { map = e .map ∙ rw (c .before .before .before .before .before .before .before .before .before .before .if1 .taken); wholes = e .wholes; rooms = e .rooms }
 
 same-length-4 : tie.Need-same-length-4
 same-length-4 c = search needs
@@ -35,7 +35,7 @@ same-length-6 c = search needs
 
 returns-2 : tie.Need-returns-2
 unfolding mapOf
-returns-2 c = let e = c .before .before .before .before .before .before .solve-left .ensures in (e .0 ∙ rw (c .before .before .before .before .before .before .before .before .before .before .if1 .left), e .1, e .2)
+returns-2 c = let e = c .before .before .before .before .before .before .solve-left .ensures in record { map = e .map ∙ rw (c .before .before .before .before .before .before .before .before .before .before .if1 .left); wholes = e .wholes; rooms = e .rooms }
 
 pub solve-spec : {M : Type 1} → statement M
 solve-spec =

@@ -1,7 +1,7 @@
 -- `matching::solve::solve_left` meets its contract. Assumes nothing.
 use denote.Ref.{now}
-use Prim.Native.Nat.{_+_, _*_, _-_, _≤_}
-use mathlib.Core.Path.{_≡_, sym, ap, _∙_}
+use Prim.Native.Nat.{_*_, _-_, _≤_}
+use mathlib.Core.Path.{ap, _∙_}
 use native.Mathlib.Omega.{arith}
 use lib.ListN.{length, replicate}
 use mathlib.Core.Bool.{false}
@@ -49,7 +49,7 @@ returns c =
     let k = length (now (z .args .room)) - z .args .w * z .args .h in
     let l : k ≤ length (now (z .args .room)) = omega arith in
     let long = d .kept .1 .1 .1 .1 .1 .1 .1 .1 .0 ∙ front-length k (now (z .args .room)) l in
-    (d .ensures .0, d .ensures .1, c .before .before .clear-f32 .ensures ∙ ap (λ n. replicate n (fin false 0 (pos 0))) (room-after k (now (z .args .room)) l (d .last .1 .1 .1 .1 .1 .1 .1 .1 .0) long))
+    record { map = d .ensures .map; wholes = d .ensures .wholes; rooms = c .before .before .clear-f32 .ensures ∙ ap (λ n. replicate n (fin false 0 (pos 0))) (room-after k (now (z .args .room)) l (d .last .1 .1 .1 .1 .1 .1 .1 .1 .0) long) }
 
 pub solve-left-spec : {M : Type 1} → statement M
 solve-left-spec =

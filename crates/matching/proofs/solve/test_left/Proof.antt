@@ -1,16 +1,13 @@
 -- `matching::solve::test_left` meets its contract. Assumes nothing.
 use denote.Ref.{now}
-use Prim.Native.Nat.{ℕ, _+_, _*_, _-_, _≤_}
-use mathlib.Core.Path.{_≡_, sym, ap, _∙_, subst}
-use native.Mathlib.Nat.{sub-zero}
+use Prim.Native.Nat.{_*_, _-_, _≤_}
+use mathlib.Core.Path.{_≡_, sym, ap, _∙_}
 use native.Mathlib.Omega.{arith}
 use mathlib.Core.Bool.{false}
-use mathlib.Core.List.{List}
 use lib.IntN.{pos}
-use lib.Ieee.{Float, fin}
-use lib.ListN.{length, take, drop, replicate}
-use Rattle.choices.specs.LeftRight.{leftRight}
-use Rattle.matching.specs.Fit.{cellsIn, sideCells, Kept}
+use lib.Ieee.{fin}
+use lib.ListN.{length, replicate}
+use Rattle.matching.specs.Inner.{cellsIn, sideCells}
 use Rattle.matching.proofs.Tail.{front-length, room-after, tail-after, tail-lent}
 use Rattle.matching.proofs.Turns.{kept-front}
 use Rattle.matching.proofs.Fitting.{volume-first}
@@ -36,12 +33,15 @@ part-turn-direction-end c = search needs
 turn-direction-requires : tie.Need-turn-direction-requires
 turn-direction-requires c κs =
     let z = c .before .before .before .before in
-    let t = z .pre .0 in
+    let t = z .pre .turning in
     let e = length (now (z .args .room)) in
     let k = e - z .args .w * z .args .h in
-    let same : sideCells (z .args .w) (z .args .h) (z .args .opts) ≡ k = omega (arith, z .pre .1) in
+    let same : sideCells (z .args .w) (z .args .h) (z .args .opts) ≡ k = omega (arith, z .pre .cells) in
     let few : cellsIn (z .args .w) (z .args .h) (z .args .opts) ≤ k = omega (arith, volume-first (z .args .w) (z .args .h) (z .args .opts)) in
-    (record { left = t .left; right = t .right; wholeLength = t .wholeLength; fit = t .fit; kept = kept-front (t .kept) k few }, front-length k (now (z .args .room)) (omega arith) ∙ sym same)
+    record {
+      turning = record { left = t .left; right = t .right; wholeLength = t .wholeLength; fits = t .fits; kept = kept-front (t .kept) k few };
+      cells = front-length k (now (z .args .room)) (omega arith) ∙ sym same;
+    }
 
 mul-left-right : tie.Need-mul-left-right
 mul-left-right c = search needs
@@ -74,14 +74,15 @@ returns c =
     let e = length (now (z .args .room)) in
     let k = e - z .args .w * z .args .h in
     let l : k ≤ e = omega arith in
-    let same : sideCells (z .args .w) (z .args .h) (z .args .opts) ≡ k = omega (arith, z .pre .1) in
+    let same : sideCells (z .args .w) (z .args .h) (z .args .opts) ≡ k = omega (arith, z .pre .cells) in
     let few : cellsIn (z .args .w) (z .args .h) (z .args .opts) ≤ k = omega (arith, volume-first (z .args .w) (z .args .h) (z .args .opts)) in
     let part = d .last .1 .0 in
     let long = d .kept .1 .0 ∙ front-length k (now (z .args .room)) l in
-    let room = room-after k (now (z .args .room)) l part long in (
-      (λ left right q. c .before .before .before .before .before .before .left-right .ensures ∙ rw (d .ensures left right (kept-front q k few), tail-lent k e _ room, tail-after k (now (z .args .room)) l part long, same)),
-      c .before .before .clear-f32 .ensures ∙ ap (λ n. replicate n (fin false 0 (pos 0))) room,
-    )
+    let room = room-after k (now (z .args .room)) l part long in
+    record {
+      map = λ left right q. c .before .before .before .before .before .before .left-right .ensures ∙ rw (d .ensures left right (kept-front q k few), tail-lent k e _ room, tail-after k (now (z .args .room)) l part long, same);
+      rooms = c .before .before .clear-f32 .ensures ∙ ap (λ n. replicate n (fin false 0 (pos 0))) room;
+    }
 
 pub test-left-spec : {M : Type 1} → statement M
 test-left-spec =

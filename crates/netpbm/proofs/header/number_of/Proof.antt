@@ -3,12 +3,12 @@ use Prim.Native.Nat.{_-_, zero-le}
 use mathlib.Core.Path.{refl}
 use native.Mathlib.Omega.{arith}
 use lib.ListN.{length}
-use Rattle.netpbm.proofs.Headers.{Numbered, numbered-all, numbered-digit, numbered-next}
+use Rattle.netpbm.proofs.Headers.{NumberSoFar, numbered-all, numbered-digit, numbered-next}
 use Rattle.netpbm.proofs.header.number_of.Statement.{statement}
 use Rattle.netpbm.proofs.header.number_of.Tie as tie
 
 abbrev Inv-loop : tie.InvT-loop
-Inv-loop digits n₀ i₀ n i = Numbered digits n i
+Inv-loop digits n₀ i₀ n i = NumberSoFar digits n i
 
 abbrev μ-loop : tie.MeasureT-loop
 μ-loop digits n₀ i₀ n i = length digits - i

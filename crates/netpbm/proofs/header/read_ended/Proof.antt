@@ -1,10 +1,10 @@
--- `netpbm::header::read_ended` meets its contract. Assumes nothing.
+-- `netpbm::header::read_ended` meets its contract: a number that was found, and then the word at the place past it. Assumes nothing.
 use mathlib.Core.Path.{sym, _∙_}
 use native.Mathlib.Omega.{arith}
 use lib.ListN.{drop}
 use borrow.Author.Needs.{needs}
 use Rattle.netpbm.specs.Header.{takeNumber, takeEnded}
-use Rattle.netpbm.specs.Answers.{NumberAt}
+use Rattle.netpbm.specs.Inner.{NumberAt}
 use Rattle.netpbm.proofs.Headers.{found-number, found-none, ended-is, ended-not}
 use Rattle.netpbm.proofs.header.read_ended.Statement.{statement}
 use Rattle.netpbm.proofs.header.read_ended.Tie as tie

@@ -1,8 +1,8 @@
--- `netpbm::order::cell_at` meets its contract. Assumes nothing.
+-- `netpbm::order::cell_at` meets its contract: the pattern there, read inward. Assumes nothing.
 use mathlib.Core.Path.{_∙_, ap}
 use lib.Ieee.{binary32, ofBits}
 use borrow.Author.Needs.{needs}
-use Rattle.netpbm.specs.Pfm.{inward, cellOf}
+use Rattle.netpbm.specs.Pfm.{inward, fileCell}
 use Rattle.netpbm.proofs.order.cell_at.Statement.{statement}
 use Rattle.netpbm.proofs.order.cell_at.Tie as tie
 
@@ -13,7 +13,7 @@ inward-cell-requires : tie.Need-inward-cell-requires
 inward-cell-requires c κs = search needs
 
 returns : tie.Need-returns
-unfolding cellOf
+unfolding fileCell
 returns c = c .inward-cell .ensures ∙ ap (λ p. inward (ofBits binary32 p)) (c .before .pattern-at .ensures)
 
 pub cell-at-spec : {M : Type 1} → statement M

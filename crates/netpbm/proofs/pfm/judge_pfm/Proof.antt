@@ -1,9 +1,9 @@
--- `netpbm::pfm::judge_pfm` meets its contract. Assumes nothing.
+-- `netpbm::pfm::judge_pfm` meets its contract: the header, and then the size with the bytes after it. Assumes nothing.
 use mathlib.Core.Path.{subst}
 use borrow.Author.Needs.{needs}
 use denote.Ref.{now}
 use Rattle.netpbm.specs.Pfm.{takePfmHead}
-use Rattle.netpbm.specs.Answers.{PfmAt, PfmAs}
+use Rattle.netpbm.specs.Inner.{PfmAt, PfmAs}
 use Rattle.netpbm.proofs.Readings.{map-none, map-refused, map-is}
 use Rattle.netpbm.proofs.pfm.judge_pfm.Statement.{statement}
 use Rattle.netpbm.proofs.pfm.judge_pfm.Tie as tie

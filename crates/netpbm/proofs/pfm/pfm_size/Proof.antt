@@ -1,7 +1,7 @@
--- `netpbm::pfm::pfm_size` meets its contract. Assumes nothing.
+-- `netpbm::pfm::pfm_size` meets its contract: what was judged, without its cells. Assumes nothing.
 use mathlib.Core.Path.{subst}
 use borrow.Author.Needs.{needs}
-use Rattle.netpbm.specs.Answers.{MapAs}
+use Rattle.netpbm.specs.Inner.{MapAs}
 use Rattle.netpbm.proofs.pfm.pfm_size.Statement.{statement}
 use Rattle.netpbm.proofs.pfm.pfm_size.Tie as tie
 

@@ -1,4 +1,4 @@
--- `netpbm::pfm::read_pfm` meets its contract. Assumes nothing.
+-- `netpbm::pfm::read_pfm` meets its contract: what was judged, then the length of the output, then the rows. Assumes nothing.
 use mathlib.Core.Path.{subst}
 use native.Mathlib.Omega.{arith}
 use borrow.Author.Needs.{needs}
@@ -6,7 +6,7 @@ use borrow.Rule.Slice.PartAt.{part-to-end}
 use denote.Ref.{now}
 use Rattle.maps.proofs.Facts.{pixels-small}
 use Rattle.netpbm.specs.declared.pfm.Map.the-variants.{Raster}
-use Rattle.netpbm.specs.Answers.{MapAs}
+use Rattle.netpbm.specs.Inner.{MapAs}
 use Rattle.netpbm.proofs.Readings.{read-refused, read-unfit, read-done, data-long}
 use Rattle.netpbm.proofs.pfm.read_pfm.Statement.{statement}
 use Rattle.netpbm.proofs.pfm.read_pfm.Tie as tie

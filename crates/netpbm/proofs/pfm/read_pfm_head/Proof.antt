@@ -9,7 +9,7 @@ use denote.Ref.{now}
 use lib.ListN.{drop}
 use Rattle.netpbm.specs.Header.{startsWith, takeEnded}
 use Rattle.netpbm.specs.Pfm.{pfmMagic, space, lineEnd}
-use Rattle.netpbm.specs.Answers.{NumberAt, FoundAs, ScaleAs}
+use Rattle.netpbm.specs.Inner.{NumberAt, FoundAs, ScaleAs}
 use Rattle.netpbm.proofs.Headers.{past-word}
 use Rattle.netpbm.proofs.Readings.{at-place, pfm-no-magic, pfm-no-width, pfm-no-height, pfm-no-scale, pfm-head}
 use Rattle.netpbm.proofs.pfm.read_pfm_head.Statement.{statement}

@@ -1,9 +1,9 @@
--- `netpbm::pgm::judge_pgm` meets its contract. Assumes nothing.
+-- `netpbm::pgm::judge_pgm` meets its contract: the header, its maximum, and then the size with the bytes after it. Assumes nothing.
 use mathlib.Core.Path.{subst}
 use borrow.Author.Needs.{needs}
 use denote.Ref.{now}
 use Rattle.netpbm.specs.Pgm.{takePgmHead}
-use Rattle.netpbm.specs.Answers.{PgmAt, PgmAs}
+use Rattle.netpbm.specs.Inner.{PgmAt, PgmAs}
 use Rattle.netpbm.proofs.Readings.{picture-none, picture-maximum, picture-refused, picture-is}
 use Rattle.netpbm.proofs.pgm.judge_pgm.Statement.{statement}
 use Rattle.netpbm.proofs.pgm.judge_pgm.Tie as tie

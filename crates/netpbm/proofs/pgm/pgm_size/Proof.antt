@@ -1,7 +1,7 @@
--- `netpbm::pgm::pgm_size` meets its contract. Assumes nothing.
+-- `netpbm::pgm::pgm_size` meets its contract: what was judged, without its levels. Assumes nothing.
 use mathlib.Core.Path.{subst}
 use borrow.Author.Needs.{needs}
-use Rattle.netpbm.specs.Answers.{PictureAs}
+use Rattle.netpbm.specs.Inner.{PictureAs}
 use Rattle.netpbm.proofs.pgm.pgm_size.Statement.{statement}
 use Rattle.netpbm.proofs.pgm.pgm_size.Tie as tie
 

@@ -1,11 +1,11 @@
--- `netpbm::pgm::read_pgm` meets its contract. Assumes nothing.
+-- `netpbm::pgm::read_pgm` meets its contract: what was judged, then the length of the output, then the levels. Assumes nothing.
 use mathlib.Core.Path.{subst}
 use native.Mathlib.Omega.{arith}
 use borrow.Author.Needs.{needs}
 use denote.Ref.{now}
 use Rattle.maps.proofs.Facts.{pixels-small}
 use Rattle.netpbm.specs.declared.pgm.Picture.the-variants.{Raster}
-use Rattle.netpbm.specs.Answers.{PictureAs}
+use Rattle.netpbm.specs.Inner.{PictureAs}
 use Rattle.netpbm.proofs.Readings.{read-refused, read-unfit, read-done, data-long, levels-read}
 use Rattle.netpbm.proofs.pgm.read_pgm.Statement.{statement}
 use Rattle.netpbm.proofs.pgm.read_pgm.Tie as tie

@@ -10,7 +10,7 @@ use denote.Ref.{now}
 use lib.ListN.{drop}
 use Rattle.netpbm.specs.Header.{startsWith, takeSpaced}
 use Rattle.netpbm.specs.Pgm.{pgmMagic}
-use Rattle.netpbm.specs.Answers.{NumberAt, FoundAs}
+use Rattle.netpbm.specs.Inner.{NumberAt, FoundAs}
 use Rattle.netpbm.proofs.Headers.{past-word}
 use Rattle.netpbm.proofs.Readings.{at-place, pgm-no-magic, pgm-no-width, pgm-no-height, pgm-no-maximum, pgm-no-white, pgm-head}
 use Rattle.netpbm.proofs.pgm.read_pgm_head.Statement.{statement}

@@ -1,4 +1,4 @@
--- `netpbm::raster::judge_size` meets its contract. Assumes nothing.
+-- `netpbm::raster::judge_size` meets its contract: the sides, and then the count of bytes. Assumes nothing.
 use Prim.Native.Nat.{_*_, _≤_}
 use mathlib.Core.Path.{_≡_, sym, _∙_}
 use mathlib.Core.Bool.{true}
@@ -7,8 +7,9 @@ use native.Mathlib.Omega.{arith}
 use borrow.Author.Needs.{needs}
 use borrow.Author.Tests.{not-true, not-false}
 use Rattle.options.specs.Limits.{isSide, sideMost}
+use Rattle.options.proofs.Sides.{side-fits}
 use Rattle.maps.proofs.Facts.{pixels-small}
-use Rattle.netpbm.proofs.Readings.{side-most, judged-wide, judged-high, judged-long, judged-is}
+use Rattle.netpbm.proofs.Readings.{judged-wide, judged-high, judged-long, judged-is}
 use Rattle.netpbm.proofs.raster.judge_size.Statement.{statement}
 use Rattle.netpbm.proofs.raster.judge_size.Tie as tie
 
@@ -20,7 +21,7 @@ high : (c : tie.Else2) → isSide (c .before .before .before .before .before .ar
 high c = sym (c .before .is-side2 .ensures) ∙ not-false _ (c .if2 .left)
 
 few : (c : tie.Else2) → let a = c .before .before .before .before .before .args in a .width * a .height ≤ sideMost * sideMost
-few c = pixels-small _ _ (side-most _ (wide (c .before .before))) (side-most _ (high c))
+few c = pixels-small _ _ (side-fits _ (wide (c .before .before)) .most) (side-fits _ (high c) .most)
 
 is-side-requires : tie.Need-is-side-requires
 is-side-requires c κs = search needs

@@ -6,7 +6,7 @@ use denote.Ref.{now}
 use lib.ListN.{drop}
 use Rattle.netpbm.specs.Header.{takeNumber}
 use Rattle.netpbm.specs.Pfm.{takeFraction}
-use Rattle.netpbm.specs.Answers.{NumberAt, FoundAs}
+use Rattle.netpbm.specs.Inner.{NumberAt, FoundAs}
 use Rattle.netpbm.proofs.Headers.{held-min}
 use Rattle.netpbm.proofs.Readings.{scale-no-whole, scale-no-fraction, scale-zero, scale-no-end, scale-found}
 use Rattle.netpbm.proofs.scale.read_scale.Statement.{statement}

@@ -2,7 +2,7 @@
 use native.Mathlib.Omega.{arith}
 use borrow.Author.Needs.{needs}
 use Rattle.lists.proofs.Stores.{wrote-then}
-use Rattle.lists.proofs.Writes.{measured, count-refused, done-refused, done-short, done-wrote}
+use Rattle.refusals.proofs.Writes.{measured, count-refused, done-refused, done-short, done-wrote}
 use Rattle.netpbm.proofs.PfmWritings.{pfm-measured}
 use Rattle.netpbm.proofs.writing.write_pfm.Statement.{statement}
 use Rattle.netpbm.proofs.writing.write_pfm.Tie as tie

@@ -1,10 +1,11 @@
--- `paths::cost::turned_cost` meets its contract. Assumes nothing.
+-- `paths::cost::turned_cost` meets its contract: neither difference is below zero, and the cell that is read lies in the row. Assumes nothing.
 use borrow.Author.Needs.{needs}
 use denote.Ref.{now}
 use Prim.Native.Nat.{_+_, _-_, _*_, _<_}
 use native.Mathlib.Omega.{arith}
 use lib.ListN.{length}
 use lib.Ieee.{ofBits}
+use Rattle.options.specs.Limits.{firstMost}
 use Rattle.paths.proofs.Blocks.{row-cell}
 use Rattle.paths.proofs.Turning.{turned-left, turned-inside, turned-right}
 use Rattle.paths.proofs.cost.turned_cost.Statement.{statement}
@@ -12,12 +13,15 @@ use Rattle.paths.proofs.cost.turned_cost.Tie as tie
 
 -- the cell that is read
 read : (c : tie.Then2) → let a = c .before .before .args in
-    let x = a .far - (4096 + a .k) in (x * a .count + a .k < a .w * a .count) × (a .row + (x * a .count + a .k) < length (now (a .v)))
+    let x = a .far - (firstMost + a .k) in (x * a .count + a .k < a .w * a .count) × (a .row + (x * a .count + a .k) < length (now (a .v)))
 read c =
     let s = c .before .before in
     let a = s .args in
-    let inside = row-cell (a .w) (a .count) (a .far - (4096 + a .k)) (a .k) (c .if2 .taken) (s .pre .1) in
+    let inside = row-cell (a .w) (a .count) (a .far - (firstMost + a .k)) (a .k) (c .if2 .taken) (s .pre .1) in
     (inside, omega (arith, inside, s .pre .0))
+
+cast-back : tie.Need-cast-back
+cast-back c = search needs
 
 add-back : tie.Need-add-back
 add-back c = search needs
@@ -55,6 +59,7 @@ pub turned-cost-spec : {M : Type 1} → statement M
 turned-cost-spec =
     tie.close
     (tie.spec
+    cast-back
     add-back
     returns
     mul-result

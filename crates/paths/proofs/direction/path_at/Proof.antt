@@ -1,4 +1,4 @@
--- `paths::direction::path_at` meets its contract. Assumes nothing.
+-- `paths::direction::path_at` meets its contract: a step reads the slot of the previous pixel, a start the costs alone. Assumes nothing.
 use Prim.Native.Nat.{ℕ, _+_, _*_, _^_, _<_}
 use mathlib.Core.Path.{_≡_, sym, ap, _∙_, subst}
 use mathlib.Core.List.{List}
@@ -10,7 +10,7 @@ use lib.Ieee.{Float}
 use Rattle.lists.proofs.Rows.{pixel-in}
 use Rattle.paths.specs.Bounds.{UpTo, All}
 use Rattle.paths.specs.Room.{run, Runs}
-use Rattle.paths.specs.Walk.{previousOf, cellsOf, slotOf, pixelsIn, cellsIn}
+use Rattle.paths.specs.Walk.{previousOf, pathCells, slotOf, pixelsIn, cellsIn}
 use Rattle.paths.proofs.Places.{previous-in}
 use Rattle.paths.proofs.Slots.{slot-in, slot-other, OfSlot, of-slot, no-slot}
 use Rattle.paths.proofs.Rooms.{two-runs, step-runs, cells-in-run}
@@ -82,11 +82,11 @@ abbrev volume : tie.Start → List Float
 volume s = let a = s .args in run (cellsIn (a .walk)) (a .paths) (now (a .v))
 
 reads : (d : tie.After-from) → let a = start d .args in
-    cellsOf (a .walk .count) (volume (start d)) (slotOf (a .walk .w) (found d .q)) ≡ run (a .walk .count) (a .paths + read d * a .walk .count) (now (a .v))
+    pathCells (a .walk .count) (volume (start d)) (slotOf (a .walk .w) (found d .q)) ≡ run (a .walk .count) (a .paths + read d * a .walk .count) (now (a .v))
 reads d =
     let s = start d in
     let a = s .args in
-    ap (cellsOf (a .walk .count) (volume s)) (found d .slot)
+    ap (pathCells (a .walk .count) (volume s)) (found d .slot)
     ∙ cells-in-run (now (a .v)) (pixelsIn (a .walk)) (a .walk .count) (read d) (inside d) (a .paths) (s .pre .1 .3 .b-in)
 
 mul-cost : tie.Need-mul-cost

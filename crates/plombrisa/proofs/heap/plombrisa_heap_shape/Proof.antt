@@ -1,7 +1,7 @@
 -- `plombrisa::heap::plombrisa_heap_shape` meets its contract. Assumes nothing.
 use mathlib.Core.Path.{_≡_, ap, _∙_}
 use borrow.Author.Needs.{needs}
-use Rattle.volume.specs.Outcome.{shapeOf}
+use Rattle.volume.specs.Outcome.{gridShape}
 use Rattle.plombrisa.specs.Options.{siteOf}
 use Rattle.plombrisa.proofs.Sites.{site-back}
 use Rattle.plombrisa.proofs.heap.plombrisa_heap_shape.Statement.{statement}
@@ -17,9 +17,9 @@ returns : tie.Need-returns
 returns c =
     let z = c .before .before .before .before in
     let a = z .args in
-    let shape : c .before .before .before .heap-shape .result ≡ shapeOf (siteOf (a .left) (a .right) (a .top) (a .bottom) (a .cell) (a .floor)) =
+    let shape : c .before .before .before .heap-shape .result ≡ gridShape (siteOf (a .left) (a .right) (a .top) (a .bottom) (a .cell) (a .floor)) =
     c .before .before .before .heap-shape .ensures
-    ∙ ap shapeOf (site-back _ _ _ _ _ _ (z .fits .left) (z .fits .right) (z .fits .top) (z .fits .bottom) (z .fits .floor)) in
+    ∙ ap gridShape (site-back _ _ _ _ _ _ (z .fits .left) (z .fits .right) (z .fits .top) (z .fits .bottom) (z .fits .floor)) in
     rw shape at (c .tell-shape .ensures)
 
 pub plombrisa-heap-shape-spec : {M : Type 1} → statement M

@@ -18,7 +18,7 @@ returns c =
     let z = c .before .before .before .before .before .before .before .before .before .before .before .before .before in
     let site = site-back _ _ _ _ (z .args .cell) _ (z .fits .left) (z .fits .right) (z .fits .top) (z .fits .bottom) (z .fits .floor) in
     let done = rw site at (c .before .before .before .before .before .before .before .heap-volume .ensures) in
-    record { told = rw (done .0) at (c .tell-heap .ensures); grids = done .1 }
+    record { told = rw (done .answer) at (c .tell-heap .ensures); grids = done .grids }
 
 pub plombrisa-heap-volume-spec : {M : Type 1} → statement M
 plombrisa-heap-volume-spec =

@@ -44,7 +44,7 @@ use denote.Exit.{yes}
 use Rattle.points.specs.declared.Intrinsics.{Intrinsics}
 use Rattle.points.specs.declared.PointRecord.{PointRecord}
 use Rattle.points.specs.declared.Filled.{Filled}
-use Rattle.points.specs.Records.{answerOf, listAfter}
+use Rattle.points.specs.Records.{PointsOutcome}
 use Rattle.points.proofs.Intrinsics as I
 use Rattle.points.proofs.Intrinsics.Laws as I′
 use Rattle.points.proofs.PointRecord as R
@@ -55,7 +55,7 @@ use Rattle.points.proofs.points.Symbol as points-def
 use Rattle.points.proofs.points.Symbol.{name as #points}
 use Rattle.points.proofs.points.Met as points-thm
 use Rattle.points.specs.Given.{filledGiven}
-use Rattle.plombrisa.specs.Answers.{Told, PointsTold}
+use Rattle.plombrisa.specs.Host.{HostTold, HostPoints}
 use Rattle.plombrisa.specs.Options.{intrinsicsOf}
 use Rattle.plombrisa.proofs.point.tell_filled as tell
 use Rattle.plombrisa.proofs.point.tell_filled.Symbol as tell-def
@@ -123,9 +123,6 @@ module _ {M : Type 1} (𝓤 : URA M) (H : Heap 𝓤) (A : Atoms 𝓤) (W : Given
   is-k : Is I.the-row k (k-val ∷ [])
   is-k = LL.owes I.the-type I′.the-laws k (is-fx, (is-fy, (is-cx, (is-cy, (is-b, tt)))))
 
-  abbrev answered : Filled
-  answered = answerOf w h (now s) k (length (now x))
-
   -- ---- what the references own, and the tokens of their lifetimes, as the callees take them
   abbrev Cells : Fml
   Cells = ShrSlice (named 0) κ₀ f32 .own s (cells-val ∷ [])
@@ -164,7 +161,7 @@ module _ {M : Type 1} (𝓤 : URA M) (H : Heap 𝓤) (A : Atoms 𝓤) (W : Given
       move ! (1 ∷ 0 ∷ []) $ join ! $ frame ! $ done !
 
   abbrev PointsSays : Filled → List PointRecord → Type 0
-  PointsSays r zs = (r ≡ answered) × (zs ≡ listAfter w h (now s) k (now x))
+  PointsSays r zs = PointsOutcome r w h (now s) k (now x) zs
 
   -- ---- the call of `tell_filled` on the answer r
   abbrev to-tell : Filled → Val → Tell 𝓤 H A mem run .Ghost
@@ -175,13 +172,13 @@ module _ {M : Type 1} (𝓤 : URA M) (H : Heap 𝓤) (A : Atoms 𝓤) (W : Given
       qed W (Tok′ ∷ ‵ (F.the-row .own r (u ∷ [])) ∷ ‵ Count ∷ []) ∵ nothing ! $ move ! (3 ∷ 0 ∷ []) $ fjoin ! $ move ! (2 ∷ 0 ∷ []) $ fjoin ! $ move ! (1 ∷ 0 ∷ []) $ join ! $ frame ! $ done !
 
   abbrev TellSays : Filled → ℕ → ℕ → Type 0
-  TellSays r m c = Told m (filledGiven r) (now n) c
+  TellSays r m c = HostTold m (filledGiven r) (now n) c
 
   -- ---- the exit, where the list is zs and the count is c
-  told : (r : Filled) (m c : ℕ) (zs : List PointRecord) → PointsSays r zs → TellSays r m c → PointsTold m w h (now s) k (now x) zs (now n) c
-  told r m c zs e t = record { told = rw (e .0) at t; lists = e .1 }
+  told : (r : Filled) (m c : ℕ) (zs : List PointRecord) → PointsSays r zs → TellSays r m c → HostPoints m w h (now s) k (now x) zs (now n) c
+  told r m c zs e t = record { told = rw (e .answer) at t; lists = e .lists }
 
-  exits : (m : ℕ) (v : Val) (zs : List PointRecord) (c : ℕ) → PointsTold m w h (now s) k (now x) zs (now n) c → length zs ≡ length (now x)
+  exits : (m : ℕ) (v : Val) (zs : List PointRecord) (c : ℕ) → HostPoints m w h (now s) k (now x) zs (now n) c → length zs ≡ length (now x)
       → ent 𝓤 (⋆ 𝓤 H A (Tok ∷ Tok′ ∷ ‵ (finally R.the-row (name x) zs) ∷ ‵ (fres (name n) (u64 .coded .code c)) ∷ ‵ (u32 .own m (v ∷ [])) ∷ [])) (Post v)
   exits m v zs c e l =
       qed W (Tok ∷ Tok′ ∷ ‵ (finally R.the-row (name x) zs) ∷ ‵ (fres (name n) (u64 .coded .code c)) ∷ ‵ (u32 .own m (v ∷ [])) ∷ []) ∵

@@ -42,7 +42,7 @@ use denote.Triple.Clauses.{ensured, lasts}
 use denote.Exit.{yes}
 use Rattle.rows.specs.declared.RowRecord.{RowRecord}
 use Rattle.rows.specs.declared.Edit.{Edit}
-use Rattle.rows.specs.Index.{EditDone}
+use Rattle.rows.specs.Index.{EditOutcome}
 use Rattle.plombrisa.specs.Options.{editOf}
 use Rattle.rows.proofs.RowRecord as R
 use Rattle.rows.proofs.Edit as E
@@ -152,7 +152,7 @@ module _ {M : Type 1} (𝓤 : URA M) (H : Heap 𝓤) (A : Atoms 𝓤) (W : Given
       move ! (1 ∷ 0 ∷ []) $ join ! $ frame ! $ done !
 
   abbrev Says : Edit → ℕ → List Float → List RowRecord → Type 0
-  Says e m cs zs = EditDone m w h e (now s) cs (now i) zs
+  Says e m cs zs = EditOutcome m w h e (now s) cs (now i) zs
 
   -- ---- the exit, where the map is cs and the index is zs
   exits : (m : ℕ) (v : Val) (cs : List Float) (zs : List RowRecord) → Says (editOf x y d) m cs zs → length cs ≡ length (now s) → length zs ≡ length (now i)

@@ -39,7 +39,7 @@ use denote.Triple.Walked.{says, Stay, Stays, stay-dropped, gave-slice, walkOf, G
 use denote.Triple.Clauses.{ensured, lasts}
 use denote.Exit.{yes}
 use Rattle.rows.specs.declared.RowRecord.{RowRecord}
-use Rattle.rows.specs.Index.{FreshDone}
+use Rattle.rows.specs.Index.{FreshOutcome}
 use Rattle.rows.proofs.RowRecord as R
 use Rattle.rows.proofs.fresh_index as fresh
 use Rattle.rows.proofs.fresh_index.Symbol as fresh-def
@@ -121,7 +121,7 @@ module _ {M : Type 1} (𝓤 : URA M) (H : Heap 𝓤) (A : Atoms 𝓤) (W : Given
       move ! (1 ∷ 0 ∷ []) $ join ! $ frame ! $ done !
 
   abbrev Says : ℕ → List RowRecord → Type 0
-  Says m zs = FreshDone m w h (now s) (now x) zs
+  Says m zs = FreshOutcome m w h (now s) (now x) zs
 
   -- ---- the exit, where the index is zs
   exits : (m : ℕ) (v : Val) (zs : List RowRecord) → Says m zs → length zs ≡ length (now x)

@@ -1,4 +1,4 @@
--- `rows::Left::nothing` meets its contract. Assumes nothing.
+-- `rows::Left::nothing` meets its contract: the record of no cell counts none. Assumes nothing.
 use mathlib.Core.Path.{refl}
 use borrow.Author.Needs.{needs}
 use Rattle.maps.specs.Map.{valids, widens}

@@ -1,4 +1,4 @@
--- `rows::Left::one_row` meets its contract. Assumes nothing.
+-- `rows::Left::one_row` meets its contract, field by field. Assumes nothing.
 use mathlib.Core.Path.{refl}
 use Rattle.rows.proofs.Left.one_row.Statement.{statement}
 use Rattle.rows.proofs.Left.one_row.Tie as tie

@@ -1,9 +1,9 @@
--- `sheets::code::cell_of` meets its contract. Assumes nothing.
+-- `sheets::code::cell_of` meets its contract: 0 is the mark, and any other number is that of its kind. Assumes nothing.
 use mathlib.Core.Path.{_≡_}
 use Prim.Native.Nat.{ℕ, suc, _-_}
 use native.Mathlib.Omega.{arith}
 use borrow.Author.Needs.{needs}
-use Rattle.sheets.specs.Code.{cellOf}
+use Rattle.sheets.specs.Code.{sheetCell}
 use Rattle.sheets.proofs.code.cell_of.Statement.{statement}
 use Rattle.sheets.proofs.code.cell_of.Tie as tie
 
@@ -15,7 +15,7 @@ stored-requires : tie.Need-stored-requires
 stored-requires c κs = search needs
 
 returns : tie.Need-returns
-unfolding cellOf
+unfolding sheetCell
 returns c = rw (c .before .if1 .taken, c .stored .ensures)
 
 enum-told : tie.Need-enum-told

@@ -1,4 +1,4 @@
--- `sheets::code::code_of` meets its contract. Assumes nothing.
+-- `sheets::code::code_of` meets its contract: a NaN, an infinity, and then by the kind. Assumes nothing.
 use mathlib.Core.Path.{_≡_, refl, sym, _∙_, subst}
 use mathlib.Core.Bool.{true, false, true≢false}
 use Prim.Native.Nat.{ℕ, _^_, _<_}
@@ -12,9 +12,9 @@ use lib.Ieee.Scale.{finite}
 use borrow.Author.Needs.{needs}
 use borrow.Author.Tests.{not-true, not-false}
 use Rattle.sheets.specs.declared.code.Kind.{Kind}
-use Rattle.lists.specs.Steps.{Or, is, refused}
+use Rattle.refusals.specs.Steps.{Or, is, refused}
 use Rattle.sheets.specs.Code.{codeOf}
-use Rattle.sheets.specs.Answers.{codeAs, CodeSmall}
+use Rattle.sheets.specs.Inner.{codeAs, CodeSmall}
 use Rattle.numbers.proofs.FinitePatterns.{finite-number}
 use Rattle.sheets.proofs.Codes.{code-exact, code-small}
 use Rattle.sheets.proofs.code.code_of.Statement.{statement}

@@ -8,7 +8,7 @@ use lib.Ieee.Bits.{nanBits-is}
 use lib.Ieee.Scale.{finite}
 use borrow.Author.Needs.{needs}
 use borrow.Author.Tests.{eq-eqb, ne-eqb, lt-ltb, le-ltb}
-use Rattle.sheets.specs.Code.{cellOf}
+use Rattle.sheets.specs.Code.{sheetCell}
 use Rattle.numbers.proofs.FinitePatterns.{pattern-finite, finite-number}
 use Rattle.sheets.proofs.code.exact_cell.Statement.{statement}
 use Rattle.sheets.proofs.code.exact_cell.Tie as tie
@@ -20,11 +20,11 @@ found c =
     pattern-finite bits ∙ ap not (ne-eqb (bits / 2 ^ 23 % 256) 255 (c .if2 .left))
 
 returns : tie.Need-returns
-unfolding cellOf
+unfolding sheetCell
 returns c = rw (le-ltb (c .before .args .bits) (2 ^ 32) (omega arith))
 
 returns-2 : tie.Need-returns-2
-unfolding cellOf
+unfolding sheetCell
 returns-2 c =
     let bits = c .before .before .args .bits in
     rw (pattern-finite bits, eq-eqb (bits / 2 ^ 23 % 256) 255 (c .if2 .taken), lt-ltb bits (2 ^ 32) (omega arith))
@@ -36,7 +36,7 @@ float-from-bits-t6 : tie.Need-float-from-bits-t6
 float-from-bits-t6 c = rw (nanBits-is binary32 (c .before .before .args .bits)) (finite-number (ofBits binary32 (c .before .before .args .bits)) (found c))
 
 returns-3 : tie.Need-returns-3
-unfolding cellOf
+unfolding sheetCell
 returns-3 c = rw (found c, lt-ltb (c .before .before .args .bits) (2 ^ 32) (omega arith))
 
 pub exact-cell-spec : {M : Type 1} → statement M

@@ -2,7 +2,7 @@
 use mathlib.Core.Path.{_≡_, refl}
 use Prim.Native.Nat.{ℕ, zero, suc}
 use Rattle.sheets.specs.Code.{kindOf}
-use Rattle.lists.specs.Steps.{refused}
+use Rattle.refusals.specs.Steps.{refused}
 use Rattle.sheets.proofs.code.kind_of.Statement.{statement}
 use Rattle.sheets.proofs.code.kind_of.Tie as tie
 

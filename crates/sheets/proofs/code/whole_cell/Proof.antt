@@ -1,4 +1,4 @@
--- `sheets::code::whole_cell` meets its contract. Assumes nothing.
+-- `sheets::code::whole_cell` meets its contract: even numbers are the folded ones from 0 up, odd ones those below. Assumes nothing.
 use mathlib.Core.Path.{_≡_, refl, ap}
 use mathlib.Core.Bool.{Bool, true, false, cond}
 use Prim.Native.Nat.{ℕ, suc, _+_, _*_, _/_, _%_, _^_, _≤_, _<_}
@@ -11,7 +11,7 @@ use borrow.Author.Needs.{needs}
 use borrow.Author.Tests.{eq-eqb, ne-eqb, le-leb, lt-leb, eqb-true, eqb-false}
 use Rattle.numbers.proofs.Patterns.{neg-round}
 use Rattle.sheets.specs.declared.code.Stored.the-variants.{Cell}
-use Rattle.sheets.specs.Code.{unfolded, cellOf}
+use Rattle.sheets.specs.Code.{unfolded, sheetCell}
 use Rattle.sheets.proofs.code.whole_cell.Statement.{statement}
 use Rattle.sheets.proofs.code.whole_cell.Tie as tie
 
@@ -35,7 +35,7 @@ mul-if1 : tie.Need-mul-if1
 mul-if1 c = search needs
 
 returns : tie.Need-returns
-unfolding cellOf
+unfolding sheetCell
 returns c = rw (lt-leb _ _ (too-far (c .before .args .folded) _ (c .if1 .taken)))
 
 int-to-float-above : tie.Need-int-to-float-above
@@ -50,13 +50,13 @@ unfolding inFloat
 int-to-float-below c = le→leb (c .before .before .before .args .folded / 2 + 1) (2 ^ 24) (omega arith)
 
 returns-2 : tie.Need-returns-2
-unfolding cellOf
+unfolding sheetCell
 returns-2 c =
     let m = c .before .before .before .args .folded in
     rw (le-leb _ _ (near m _ (c .before .before .if1 .left)), eq-eqb (m % 2) 0 (c .before .if2 .taken))
 
 returns-3 : tie.Need-returns-3
-unfolding cellOf ofInt
+unfolding sheetCell ofInt
 returns-3 c =
     let m = c .before .before .before .args .folded in
     rw (le-leb _ _ (near m _ (c .before .before .if1 .left)), ne-eqb (m % 2) 0 (c .before .if2 .left), add-one)

@@ -20,7 +20,7 @@ use Rattle.numbers.proofs.Patterns.{neg-round, sized-round, round-no-nan}
 use Rattle.numbers.proofs.Values.{above-minus-one, below-top, cut}
 use Rattle.sheets.specs.declared.code.Kind.the-variants.{Whole}
 use Rattle.sheets.specs.Limits.{wholeMost}
-use Rattle.lists.specs.Steps.{is, refused}
+use Rattle.refusals.specs.Steps.{is, refused}
 use Rattle.sheets.specs.Code.{isWhole, codeOf}
 use Rattle.numbers.proofs.FinitePatterns.{finite-number}
 use Rattle.sheets.proofs.Codes.{whole-float, whole-in, code-unwhole, code-of-int}

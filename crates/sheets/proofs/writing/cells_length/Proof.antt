@@ -6,8 +6,8 @@ use native.Mathlib.Omega.{arith}
 use borrow.Author.Needs.{needs}
 use lib.ListN.{length, length-append}
 use Rattle.sheets.specs.Number.{numberBytes}
-use Rattle.lists.specs.Writes.{byteCount}
-use Rattle.lists.specs.declared.Written.the-variants as written
+use Rattle.refusals.specs.Writes.{byteCount}
+use Rattle.refusals.specs.declared.Written.the-variants as written
 use Rattle.sheets.proofs.Numbers.{number-most}
 use Rattle.sheets.proofs.Writings.{Passed, passed-none, passed-all, passed-more, passed-refused, code-number, code-refused, code-small}
 use Rattle.sheets.proofs.writing.cells_length.Statement.{statement}

@@ -4,8 +4,8 @@ use native.Mathlib.Omega.{arith}
 use borrow.Author.Needs.{needs}
 use Rattle.maps.proofs.Facts.{good}
 use Rattle.sheets.specs.Sheet.{cellsBytes}
-use Rattle.lists.specs.Writes.{byteCount}
-use Rattle.lists.proofs.Writes.{measured, count-refused}
+use Rattle.refusals.specs.Writes.{byteCount}
+use Rattle.refusals.proofs.Writes.{measured, count-refused}
 use Rattle.sheets.proofs.Writings.{cells-few, sheet-count, sheet-refused, sheet-small}
 use Rattle.sheets.proofs.writing.kind_length.Statement.{statement}
 use Rattle.sheets.proofs.writing.kind_length.Tie as tie

@@ -8,7 +8,7 @@ use lib.ListN.{length, length-append}
 use Rattle.lists.specs.Stores.{Wrote}
 use Rattle.lists.proofs.Stores.{wrote-then, wrote-length}
 use Rattle.sheets.specs.Number.{numberBytes}
-use Rattle.lists.proofs.Stepwise.{not-accepted}
+use Rattle.refusals.proofs.Stepwise.{list-not-refused}
 use Rattle.sheets.proofs.Writings.{Passed, passed-none, passed-all, passed-fits, passed-more, passed-refused, code-number, code-refused, code-small}
 use Rattle.sheets.proofs.writing.put_cells.Statement.{statement}
 use Rattle.sheets.proofs.writing.put_cells.Tie as tie
@@ -55,7 +55,7 @@ returns c =
     let l = c .before .before .before .before .before in
     let number = code-refused _ _ (c .before .before .code-of .ensures .0) (c .enum-told .given .1) in
     let none = passed-refused _ _ _ _ (l .loop .inv .1) _ (c .before .before .before .before .loop-test .taken) number in
-    not-accepted _ none (l .before .before .before .pre .0)
+    list-not-refused _ none (l .before .before .before .pre .0)
 
 add-i : tie.Need-add-i Inv-loop μ-loop
 add-i c = search needs

@@ -1,7 +1,7 @@
 -- `sheets::writing::sheet_length` meets its contract. Assumes nothing.
 use mathlib.Core.Path.{sym, ap, _∙_}
 use borrow.Author.Needs.{needs}
-use Rattle.lists.specs.Writes.{byteCount}
+use Rattle.refusals.specs.Writes.{byteCount}
 use Rattle.sheets.proofs.Writings.{sheet-of, sheet-23, sheet-35}
 use Rattle.sheets.proofs.writing.sheet_length.Statement.{statement}
 use Rattle.sheets.proofs.writing.sheet_length.Tie as tie

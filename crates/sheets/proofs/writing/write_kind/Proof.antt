@@ -1,9 +1,9 @@
--- `sheets::writing::write_kind` meets its contract. Assumes nothing.
+-- `sheets::writing::write_kind` meets its contract: the bytes are counted, and then the head and the cells are stored. Assumes nothing.
 use native.Mathlib.Omega.{arith}
 use borrow.Author.Needs.{needs}
 use Rattle.lists.proofs.Stores.{wrote-then}
 use Rattle.maps.proofs.Facts.{good}
-use Rattle.lists.proofs.Writes.{measured, count-refused, done-refused, done-short, done-wrote}
+use Rattle.refusals.proofs.Writes.{measured, count-refused, done-refused, done-short, done-wrote}
 use Rattle.sheets.proofs.Writings.{sheet-counted, sheet-fits}
 use Rattle.sheets.proofs.writing.write_kind.Statement.{statement}
 use Rattle.sheets.proofs.writing.write_kind.Tie as tie
@@ -28,7 +28,7 @@ put-cells-requires : tie.Need-put-cells-requires
 put-cells-requires c κs =
     let s = c .before .before .before .before .before .before .before .before .before .before .before .before .args in
     let sheet = sheet-counted (s .kind) (s .width) (s .height) (s .cells .now) _ (c .before .before .before .before .before .before .before .before .before .kind-length .ensures) (c .before .before .before .before .before .before .before .n .given .1) in
-    (sheet .accepted, omega arith)
+    (sheet .there, omega arith)
 
 enum-known-n-2 : tie.Need-enum-known-n-2
 enum-known-n-2 c = search needs

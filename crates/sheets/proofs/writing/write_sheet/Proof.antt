@@ -1,7 +1,7 @@
 -- `sheets::writing::write_sheet` meets its contract. Assumes nothing.
 use mathlib.Core.Path.{sym, _∙_}
 use borrow.Author.Needs.{needs}
-use Rattle.lists.proofs.Writes.{done-refused}
+use Rattle.refusals.proofs.Writes.{done-refused}
 use Rattle.sheets.proofs.Writings.{sheet-of, sheet-23, sheet-35}
 use Rattle.sheets.proofs.writing.write_sheet.Statement.{statement}
 use Rattle.sheets.proofs.writing.write_sheet.Tie as tie

@@ -3,7 +3,7 @@ use mathlib.Core.Path.{subst}
 use denote.Ref.{now}
 use borrow.Author.Needs.{needs}
 use Rattle.vendor.specs.declared.cells.Question.{Question}
-use Rattle.vendor.specs.Ready.{Asked}
+use Rattle.vendor.specs.Inner.{Asked}
 use Rattle.vendor.proofs.cells.cell_holds.Statement.{statement}
 use Rattle.vendor.proofs.cells.cell_holds.Tie as tie
 

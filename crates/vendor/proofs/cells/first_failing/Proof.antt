@@ -8,13 +8,13 @@ use borrow.Author.Needs.{needs}
 use denote.Ref.{now}
 use Rattle.lists.proofs.Rows.{mul-pos-left, row-below}
 use Rattle.vendor.specs.Tests.{holdsAt}
-use Rattle.vendor.specs.Ready.{Placed}
+use Rattle.vendor.specs.Inner.{PixelPlaced}
 use Rattle.vendor.proofs.Asking.{placed-column, asked-at, Passed, passed-none, passed-next, passed-here, passed-all}
 use Rattle.vendor.proofs.cells.first_failing.Statement.{statement}
 use Rattle.vendor.proofs.cells.first_failing.Tie as tie
 
 abbrev Inv-loop : tie.InvT-loop
-Inv-loop left right room q map question limit at₀ at = Placed (q .w) at × Passed limit (holdsAt q left right question map) (at .p)
+Inv-loop left right room q map question limit at₀ at = PixelPlaced (q .w) at × Passed limit (holdsAt q left right question map) (at .p)
 
 abbrev μ-loop : tie.MeasureT-loop
 μ-loop left right room q map question limit at₀ at = limit - at .p

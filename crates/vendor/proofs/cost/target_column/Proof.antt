@@ -1,4 +1,4 @@
--- `vendor::cost::target_column` meets its contract: the two tests of the inner frame, then the column in 64 bits, and its own test. Assumes nothing.
+-- `vendor::cost::target_column` meets its contract: the inner frame, then the column in 64 bits, and its own test. Assumes nothing.
 use Prim.Native.Nat.{_^_, _≤_}
 use mathlib.Core.Path.{_≡_, sym, ap, _∙_}
 use mathlib.Core.Bool.{true}
@@ -9,21 +9,18 @@ use mir.Val.{toZ, ofZ}
 use borrow.Author.Needs.{needs}
 use borrow.Author.Tests.{not-true, not-false}
 use Rattle.windows.proofs.Shifts.{non-neg}
-use Rattle.costs.specs.Raw.{within}
+use Rattle.options.specs.Frame.{inFrame}
 use Rattle.vendor.specs.Tests.{shiftAt, columnIn, targetOf}
-use Rattle.vendor.proofs.Targets.{column-left, column-is, column-off, off-row, off-column, on-frame, first-cast, shift-ready, column-most, column-fits, column-back}
+use Rattle.vendor.proofs.Targets.{column-left, column-is, column-off, off-frame, on-frame, first-cast, shift-ready, column-most, column-fits, column-back}
 use Rattle.vendor.proofs.cost.target_column.Statement.{statement}
 use Rattle.vendor.proofs.cost.target_column.Tie as tie
 
--- the window at (x, y) lies within the picture
-in-row : (c : tie.Else1) → let z = c .before .before .args in within (z .q .w) (z .q .r) (z .x) ≡ true
-in-row c = sym (c .before .is-within .ensures) ∙ not-false _ (c .if1 .left)
-
-in-column : (c : tie.Else2) → let z = c .before .before .before .before .args in within (z .q .h) (z .q .r) (z .y) ≡ true
-in-column c = sym (c .before .is-within2 .ensures) ∙ not-false _ (c .if2 .left)
+-- the pixel lies in the inner frame
+framed : (c : tie.Else1) → let z = c .before .before .args in inFrame (z .q .w) (z .q .h) (z .q .r) (z .x) (z .y) ≡ true
+framed c = sym (c .before .is-inner .ensures) ∙ not-false _ (c .if1 .left)
 
 abbrev entry : tie.After-shift-at → tie.Start
-entry c = c .before .before .before .before .before .before .before .before
+entry c = c .before .before .before .before .before .before
 
 -- the column as it was worked out, and what it is
 abbrev column : tie.After-shift-at → ℤ
@@ -32,69 +29,60 @@ column c = toZ w64 (ofZ w64 (toZ w64 (entry c .args .x) +ℤ toZ w64 (ofZ w64 (c
 back : (c : tie.After-shift-at) → column c ≡ pos (entry c .args .x) +ℤ shiftAt (entry c .args .q) (entry c .args .k)
 back c = let z = entry c in column-back (z .args .q) (z .pre .0) (z .args .k) (z .pre .3) (z .args .x) (z .pre .1) _ (c .shift-at .ensures)
 
-small : (c : tie.After-shift-at) → natAbs (column c) ≤ 2 ^ 14
+small : (c : tie.After-shift-at) → natAbs (column c) ≤ 2 ^ 24
 small c = let z = entry c in rw (back c) (omega (arith, column-most (z .args .q) (z .pre .0) (z .args .k) (z .pre .3) (z .args .x) (z .pre .1) _ (c .shift-at .ensures), z .pre .0 .frame .w-most, z .pre .1))
 
 -- the target column is the one that is found there
 found : (c : tie.After-shift-at) → columnIn (entry c .args .q .w) (entry c .args .q .r) (column c) ≡ targetOf (entry c .args .q) (entry c .args .x) (entry c .args .y) (entry c .args .k)
 found c =
     let z = entry c .args in
-    let f = c .before .before .before .before in
-    ap (columnIn (z .q .w) (z .q .r)) (back c) ∙ on-frame (z .q) (z .x) (z .y) (z .k) (in-row (f .before .before)) (in-column f)
+    ap (columnIn (z .q .w) (z .q .r)) (back c) ∙ on-frame (z .q) (z .x) (z .y) (z .k) (framed (c .before .before .before .before))
 
-is-within-requires : tie.Need-is-within-requires
-is-within-requires c κs = search needs
+is-inner-requires : tie.Need-is-inner-requires
+is-inner-requires c κs = search needs
 
 returns : tie.Need-returns
-returns c = off-row _ _ _ _ (sym (c .before .is-within .ensures) ∙ not-true _ (c .if1 .taken))
-
-is-within-requires-2 : tie.Need-is-within-requires-2
-is-within-requires-2 c κs = search needs
-
-returns-2 : tie.Need-returns-2
-returns-2 c = off-column _ _ _ _ (in-row (c .before .before)) (sym (c .before .is-within2 .ensures) ∙ not-true _ (c .if2 .taken))
+returns c = off-frame _ _ _ _ (sym (c .before .is-inner .ensures) ∙ not-true _ (c .if1 .taken))
 
 cast-column : tie.Need-cast-column
 cast-column c = search needs
 
 cast-shift-at : tie.Need-cast-shift-at
-cast-shift-at c = let z = c .before .before .before .before .before .before .before in first-cast (z .args .q) (z .pre .0)
+cast-shift-at c = let z = c .before .before .before .before .before in first-cast (z .args .q) (z .pre .0)
 
 shift-at-requires : tie.Need-shift-at-requires
-shift-at-requires c κs = let z = c .before .before .before .before .before .before .before in shift-ready (z .args .q) (z .pre .0) (z .args .k) (z .pre .3)
+shift-at-requires c κs = let z = c .before .before .before .before .before in shift-ready (z .args .q) (z .pre .0) (z .args .k) (z .pre .3)
 
 add-column : tie.Need-add-column
 add-column c = let z = entry c in column-fits (z .args .q) (z .pre .0) (z .args .k) (z .pre .3) (z .args .x) (z .pre .1) _ (c .shift-at .ensures)
 
-returns-3 : tie.Need-returns-3
-returns-3 c = column-left _ _ (column (c .before)) (c .if3 .taken) ∙ found (c .before)
+returns-2 : tie.Need-returns-2
+returns-2 c = column-left _ _ (column (c .before)) (c .if2 .taken) ∙ found (c .before)
 
 cast-other : tie.Need-cast-other
-cast-other c = (non-neg (column (c .before)) (c .if3 .left), omega (arith, small (c .before)))
+cast-other c = (non-neg (column (c .before)) (c .if2 .left), omega (arith, small (c .before)))
 
-is-within-requires-3 : tie.Need-is-within-requires-3
-is-within-requires-3 c κs = omega (arith, small (c .before), entry (c .before) .pre .0 .frame)
+is-within-requires : tie.Need-is-within-requires
+is-within-requires c κs = search needs
+
+returns-3 : tie.Need-returns-3
+returns-3 c = let e = c .before .before in column-is _ _ (column (e .before)) (e .if2 .left) (sym (c .before .is-within .ensures) ∙ c .if3 .taken) ∙ found (e .before)
 
 returns-4 : tie.Need-returns-4
-returns-4 c = let e = c .before .before in column-is _ _ (column (e .before)) (e .if3 .left) (sym (c .before .is-within3 .ensures) ∙ c .if4 .taken) ∙ found (e .before)
-
-returns-5 : tie.Need-returns-5
-returns-5 c = let e = c .before .before in column-off _ _ (column (e .before)) (e .if3 .left) (sym (c .before .is-within3 .ensures) ∙ c .if4 .left) ∙ found (e .before)
+returns-4 c = let e = c .before .before in column-off _ _ (column (e .before)) (e .if2 .left) (sym (c .before .is-within .ensures) ∙ c .if3 .left) ∙ found (e .before)
 
 pub target-column-spec : {M : Type 1} → statement M
 target-column-spec =
     tie.close
     (tie.spec
-    is-within-requires
+    is-inner-requires
     returns
-    is-within-requires-2
-    returns-2
     cast-column
     cast-shift-at
     shift-at-requires
     add-column
-    returns-3
+    returns-2
     cast-other
-    is-within-requires-3
-    returns-4
-    returns-5)
+    is-within-requires
+    returns-3
+    returns-4)

@@ -1,11 +1,11 @@
--- `volume::grid::drop_point` meets its contract. Assumes nothing.
+-- `volume::grid::drop_point` meets its contract: outside nothing changes, and inside the cell is raised. Assumes nothing.
 use Prim.Native.Nat.{suc, _+_}
 use mathlib.Core.Path.{_≡_, sym, _∙_}
 use native.Mathlib.Omega.{arith}
 use borrow.Author.Needs.{needs}
 use Rattle.volume.specs.declared.site.Fall.the-variants as fall
 use Rattle.volume.specs.Heights.{heightOf}
-use Rattle.volume.specs.Answers.{fallOf}
+use Rattle.volume.specs.Inner.{fallOf}
 use Rattle.volume.proofs.Cells.{height-most, cell-below}
 use Rattle.volume.proofs.Filling.{falls-cell, falls-none}
 use Rattle.volume.proofs.grid.drop_point.Statement.{statement}

@@ -16,7 +16,7 @@ use Rattle.volume.specs.declared.heap.Figures.{Figures}
 use Rattle.volume.specs.Metres.{goodPoints, spotsOf}
 use Rattle.volume.specs.Rectangle.{goodCell, cellsMost}
 use Rattle.volume.specs.Heights.{insideCount, outsideCount, emptyCount, volumeOf, figuresOf}
-use Rattle.volume.specs.Answers.{Fit, levelsOf, LevelsFit}
+use Rattle.volume.specs.Inner.{SiteFits, levelsOf, LevelsFit}
 use Rattle.volume.proofs.Counts.{counts-given}
 use Rattle.volume.proofs.Largest.{heights-most, volume-most}
 use Rattle.volume.proofs.Lowered.{levels-length, levels-fit, levels-lowered, heights-sum, empties-sum}
@@ -30,7 +30,7 @@ cell-most s e = leb-true (s .cell) 10000 (and-both (leb 10 (s .cell)) (leb (s .c
 
 -- the grid is filled: the levels are those of the points, and so many points lie inside
 record Filled (s : Site) (columns : ℕ) (xs ys zs : List Float) (levels : List ℕ) (inside : ℕ) : Type 0 where
-  fit : Fit s columns
+  fit : SiteFits s columns
   good : goodPoints xs ys zs ≡ true
   counted : inside ≡ insideCount s (spotsOf xs ys zs)
   are : levels ≡ levelsOf s (spotsOf xs ys zs)

@@ -1,4 +1,4 @@
--- `volume::site::fall_of` meets its contract. Assumes nothing.
+-- `volume::site::fall_of` meets its contract: outside by either test, else the cell by its row and its column. Assumes nothing.
 use Prim.Native.Nat.{ℕ, _+_, _*_, _/_, _≤_}
 use mathlib.Core.Path.{_≡_, refl, sym, ap, _∙_}
 use mathlib.Core.Bool.{Bool, true}
@@ -15,7 +15,7 @@ use Rattle.volume.specs.declared.site.Fall.the-variants as fall
 use Rattle.volume.specs.declared.metres.Spot.{Spot}
 use Rattle.volume.specs.Rectangle.{above, columnsOf}
 use Rattle.volume.specs.Heights.{isBetween, isInside}
-use Rattle.volume.specs.Answers.{Near, cellAt, fallOf, heightMost}
+use Rattle.volume.specs.Inner.{Near, cellAt, fallOf, heightMost}
 use Rattle.volume.proofs.Differences.{near-between, near-back, above-back}
 use Rattle.volume.proofs.Cells.{NearSite, near-site, parts-most, cell-some}
 use Rattle.volume.proofs.site.fall_of.Statement.{statement}

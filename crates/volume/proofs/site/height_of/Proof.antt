@@ -1,7 +1,7 @@
--- `volume::site::height_of` meets its contract. Assumes nothing.
+-- `volume::site::height_of` meets its contract: the bits of near numbers give their difference. Assumes nothing.
 use mathlib.Core.Path.{_∙_}
 use Rattle.volume.specs.Heights.{heightOf}
-use Rattle.volume.specs.Answers.{Near}
+use Rattle.volume.specs.Inner.{Near}
 use Rattle.volume.proofs.Differences.{near-back, above-back}
 use Rattle.volume.proofs.Cells.{near, near-site}
 use Rattle.volume.proofs.site.height_of.Statement.{statement}

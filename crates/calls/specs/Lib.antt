@@ -1,0 +1,3 @@
+-- The definitions that the contracts of `calls` cite.
+pub mod Refusals
+pub mod Accepted
