@@ -29,7 +29,7 @@ pair-numbered q = both-numbered (pictureRows q) (searchRows q) (pictures-numbere
 
 penalty-numbered : (q : Call) → Numbered (penaltyRows q)
 unfolding penaltyRows
-penalty-numbered q = (lit< tt, tt)
+penalty-numbered q = (lit< tt, (lit< tt, tt))
 
 out-numbered : (q : Call) → Numbered (outRows q)
 unfolding outRows
@@ -165,12 +165,14 @@ unfolding firstOf penaltyRows outRows roomRows
 accepted q e =
     let n = none q e in
     let ten = passed 10 (lit< tt) _ _ (n .penalty) in
+    let thirteen = passed 13 (lit< tt) _ _ (ten .1) in
     let eleven = passed 11 (lit< tt) _ _ (n .output) in
     let twelve = passed 12 (lit< tt) _ _ (n .rooms) in
     let rooms = or-false (ltb (q .«whole_len») (wholeCells q)) (ltb (q .«float_len») (floatCells q (q .output))) (twelve .0) in
     record {
       sizes = sizes q (n .pair);
       penalties = ten .0;
+      ordered = thirteen .0;
       out-cells = eqb-true _ _ (not-false _ (eleven .0));
       whole-cells = ltb-false _ _ (rooms .0);
       float-cells = ltb-false _ _ (rooms .1);

@@ -3,6 +3,7 @@ use Prim.Native.Nat.{_*_, _/_, _≤_, _<_}
 use mathlib.Core.Path.{_≡_}
 use mathlib.Core.Bool.{false, not, _&&_}
 use lib.IntN.{pos, natAbs}
+use lib.Ieee.{lt}
 use Rattle.options.specs.Limits.{sideMost, blockMost, countMost, firstMost, isPenalty}
 use Rattle.calls.specs.declared.Call.{Call}
 use Rattle.calls.specs.Refusals.{byPaths, outCells, wholeCells, floatCells}
@@ -23,10 +24,11 @@ pub record Sizes (q : Call) : Type 0 where
   pub few : natAbs (q .count) ≤ countMost
   pub close : natAbs (q .first) ≤ firstMost
 
--- all rows: penalties in their range where they are read, and what is lent is long enough
+-- all rows: penalties in their range and p2 not below p1, where they are read, and what is lent is long enough
 pub record Accepted (q : Call) : Type 0 where
   pub sizes : Sizes q
   pub penalties : byPaths (q .output) (q .mode) && not (isPenalty (q .p1) && isPenalty (q .p2)) ≡ false
+  pub ordered : byPaths (q .output) (q .mode) && lt (q .p2) (q .p1) ≡ false
   pub out-cells : q .«out_len» ≡ outCells q (q .output)
   pub whole-cells : wholeCells q ≤ q .«whole_len»
   pub float-cells : floatCells q (q .output) ≤ q .«float_len»

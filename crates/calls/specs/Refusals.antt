@@ -5,6 +5,7 @@ use mathlib.Core.List.{List, [], _∷_, _++_}
 use lib.Dec.{ltb, eqb}
 use lib.IntN.{pos, negℤ, natAbs}
 use lib.Signed.{ltZ}
+use lib.Ieee.{lt}
 use Rattle.refusals.specs.Answered.{Row, row, firstOf}
 use Rattle.options.specs.declared.Mode.{Mode}
 use Rattle.options.specs.Options.{usesPaths}
@@ -46,9 +47,12 @@ abbrev pub byPaths : Output → Mode → Bool
 byPaths Volume mode = false
 byPaths Map mode = usesPaths mode
 
--- 10 semi-global, and a penalty is not finite or outside its range
+-- 10 semi-global, and a penalty is not finite or outside its range; 13 semi-global, and p2 is below p1
 unfoldable pub penaltyRows : Call → List Row
-penaltyRows q = row 10 (byPaths (q .output) (q .mode) && not (isPenalty (q .p1) && isPenalty (q .p2))) ∷ []
+penaltyRows q =
+    row 10 (byPaths (q .output) (q .mode) && not (isPenalty (q .p1) && isPenalty (q .p2)))
+    ∷ row 13 (byPaths (q .output) (q .mode) && lt (q .p2) (q .p1))
+    ∷ []
 
 -- w·h
 abbrev pub area : Call → ℕ
@@ -80,7 +84,7 @@ outRows q = row 11 (not (eqb (q .«out_len») (outCells q (q .output)))) ∷ []
 unfoldable pub roomRows : Call → List Row
 roomRows q = row 12 (ltb (q .«whole_len») (wholeCells q) || ltb (q .«float_len») (floatCells q (q .output))) ∷ []
 
--- THE TABLE, in document 01's order
+-- THE TABLE, in document 01's order, with 13 straight after 10
 unfoldable pub table : Call → List Row
 table q = pairRows q ++ penaltyRows q ++ outRows q ++ roomRows q
 

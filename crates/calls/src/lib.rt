@@ -122,7 +122,7 @@ fn is_penalty(p: f32) -> bool
     if 0.0 <= p { p <= PENALTY_MOST } else { false }
 }
 
-// Row 10: the penalties, which only a map along paths reads.
+// Rows 10 and 13: the penalties, which only a map along paths reads.
 fn penalty_refusal(call: Call) -> u32
     ensures { λ n. ⌜ n ≡ firstOf (penaltyRows call) ⌝ }
 {
@@ -137,6 +137,9 @@ fn penalty_refusal(call: Call) -> u32
         }
         if !is_penalty(call.p2) {
             return 10;
+        }
+        if call.p2 < call.p1 {
+            return 13;
         }
     }
     0

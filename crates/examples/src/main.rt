@@ -121,6 +121,25 @@ fn counts(level: &[u8], out: &mut [f32], whole: &mut [u64], float: &mut [f32]) {
     );
 }
 
+// The same options with the penalties p1 and p2.
+fn with_penalties(opts: BlockMatchOptions, p1: f32, p2: f32) -> BlockMatchOptions {
+    let mut changed = opts;
+    changed.sgm_p1 = p1;
+    changed.sgm_p2 = p2;
+    changed
+}
+
+// Penalties the wrong way round, and equal ones, on 3 by 3 pixels.
+fn penalties(level: &[u8], out: &mut [f32], whole: &mut [u64], float: &mut [f32]) {
+    let opts = with(1, 3, true, false);
+    let reversed = with_penalties(opts, 1.0, 0.0);
+    let refused = match_block(level, 3, 3, level, 3, 3, reversed, out, whole, float);
+    tell(refused == 13, b"p1 1 and p2 0 get 13\n");
+    let equal = with_penalties(opts, 1.0, 1.0);
+    let accepted = match_block(level, 3, 3, level, 3, 3, equal, out, whole, float);
+    tell(accepted == 0, b"p1 1 and p2 1 fit\n");
+}
+
 // Block 1, whose windows show one level each, on the printed example's pictures.
 fn block_1(
     map: &[f32],
@@ -218,6 +237,7 @@ fn main() {
     let inside = [m, m, m, m, m, m, 0.0, 0.0, 0.0, m, m, m, m, m, m];
     blocks(&level, &mut square, &mut whole, &mut float);
     counts(&level[..9], &mut nine, &mut whole, &mut float);
+    penalties(&level[..9], &mut nine, &mut whole, &mut float);
     block_1(&blank, &left, &right, &mut out, &mut whole, &mut float);
     printed(&map, &left, &right, &mut out, &mut whole, &mut float);
     one_level(&inside, &level[..15], &mut out, &mut whole, &mut float);

@@ -21,8 +21,8 @@ use Rattle.promises.specs.Witnesses.{Reached}
 
 -- ---- document 01's table
 module _ (q : Call) where
-  -- THEOREM: its rows have the numbers 1 to 12, in this order
-  pub table-numbers : map (λ r. r .number) (table q) ≡ 1 ∷ 2 ∷ 3 ∷ 4 ∷ 5 ∷ 6 ∷ 7 ∷ 8 ∷ 9 ∷ 10 ∷ 11 ∷ 12 ∷ []
+  -- THEOREM: its rows have these numbers, in this order: 13 stands straight after 10
+  pub table-numbers : map (λ r. r .number) (table q) ≡ 1 ∷ 2 ∷ 3 ∷ 4 ∷ 5 ∷ 6 ∷ 7 ∷ 8 ∷ 9 ∷ 10 ∷ 13 ∷ 11 ∷ 12 ∷ []
   unfolding table pictureRows searchRows penaltyRows outRows roomRows
   table-numbers = refl
 
@@ -41,6 +41,8 @@ pub reached : Reached
 unfolding refusal table firstOf pictureRows searchRows penaltyRows outRows roomRows pixelOf sampleOf valueAt placeOf clamped blended gotAt validAt valids validCount widen widens validRange coverOf pointOf goodSize inside filledFor goodCamera goodBaseline pointsIn isPositive mul div sum add sub neg ofInt round size climb span units odd lt le eq isNan ofBits ofFields toUnsigned sheetOf kindSheet headBytes cellsBytes numberBytes groups kindOf codeOf sheetCell whole toSigned readSheet takeHead takeVersion takeSide takeCells takeCell takeNumber takeGroups
 reached = record {
   matches = refl;
+  match-13 = refl;
+  match-10 = refl;
   pixel-1 = refl;
   pixel-2 = refl;
   pixel-26 = refl;

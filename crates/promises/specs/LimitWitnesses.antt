@@ -34,7 +34,7 @@ use Rattle.volume.specs.Metres.{goodCoordinate}
 use Rattle.volume.specs.Outcome as volume
 use Rattle.volume.specs.Given.{shapeGiven, heapGiven}
 use Rattle.promises.specs.FileWitnesses.{pgmSays, pfmSays}
-use Rattle.promises.specs.Floats.{plusZero, minusZero, one}
+use Rattle.promises.specs.Floats.{plusZero, minusZero, one, two}
 
 -- minus n
 abbrev minus : ℕ → ℤ
@@ -68,17 +68,25 @@ abbrev matchOf : ℕ → ℕ → ℤ → ℤ → ℕ → Float → Float → Cal
 matchOf w h first count block p1 p2 =
     callOf Map SemiGlobal w h first count block p1 p2 (w * h) (5 * ((w + 1) * (h + 1))) (3 * (natAbs count * (w * h)) + w * h)
 
+-- 1,024
+abbrev thousand : Float
+thousand = ofBits binary32 0x44800000
+
 -- the f32 next below zero, minus zero, zero, 1,024, the f32 next above it, infinity and a NaN
 abbrev penalties : List Float
 penalties =
     ofBits binary32 0x80000001
     ∷ minusZero
     ∷ plusZero
-    ∷ ofBits binary32 0x44800000
+    ∷ thousand
     ∷ ofBits binary32 0x44800001
     ∷ inf false
     ∷ nan
     ∷ []
+
+-- the f32 next below 1, 1, and the f32 next above it
+abbrev besideOne : List Float
+besideOne = ofBits binary32 0x3F7FFFFF ∷ one ∷ ofBits binary32 0x3F800001 ∷ []
 
 -- of pictures 5 wide and 3 high with two disparities: w·h is 15, V is 30
 abbrev lending : Output → Mode → ℕ → ℕ → ℕ → Call
@@ -165,8 +173,14 @@ pub record LimitsHeld : Type 0 where
   -- the first disparity: from -4,096 to 4,096
   pub firsts : map (λ z. refusal (matchOf 3 3 z (pos 1) 3 one one)) (minus 4097 ∷ minus 4096 ∷ pos 4096 ∷ pos 4097 ∷ []) ≡ 9 ∷ 0 ∷ 0 ∷ 9 ∷ []
   -- either penalty: from 0 to 1,024, and minus zero
-  pub penalties-1 : map (λ p. refusal (matchOf 3 3 (pos 0) (pos 1) 3 p one)) penalties ≡ 10 ∷ 0 ∷ 0 ∷ 0 ∷ 10 ∷ 10 ∷ 10 ∷ []
-  pub penalties-2 : map (λ p. refusal (matchOf 3 3 (pos 0) (pos 1) 3 one p)) penalties ≡ 10 ∷ 0 ∷ 0 ∷ 0 ∷ 10 ∷ 10 ∷ 10 ∷ []
+  pub penalties-1 : map (λ p. refusal (matchOf 3 3 (pos 0) (pos 1) 3 p thousand)) penalties ≡ 10 ∷ 0 ∷ 0 ∷ 0 ∷ 10 ∷ 10 ∷ 10 ∷ []
+  pub penalties-2 : map (λ p. refusal (matchOf 3 3 (pos 0) (pos 1) 3 plusZero p)) penalties ≡ 10 ∷ 0 ∷ 0 ∷ 0 ∷ 10 ∷ 10 ∷ 10 ∷ []
+  -- p2 at least p1, here 1; and zeros of either sign are equal
+  pub penalty-orders : map (λ p. refusal (matchOf 3 3 (pos 0) (pos 1) 3 one p)) besideOne ≡ 13 ∷ 0 ∷ 0 ∷ []
+  pub zero-orders : map (λ p. refusal (matchOf 3 3 (pos 0) (pos 1) 3 p minusZero)) (minusZero ∷ plusZero ∷ []) ≡ 0 ∷ 0 ∷ []
+  -- a block map and a raw volume are accepted with p2 below p1
+  pub block-order : refusal (callOf Map Block 5 3 (pos 0) (pos 2) 3 two one 15 120 45) ≡ 0
+  pub volume-order : refusal (callOf Volume SemiGlobal 5 3 (pos 0) (pos 2) 3 two one 30 120 0) ≡ 0
   -- the output: w·h cells of a map, V of a raw volume
   pub outputs : map (λ n. refusal (lending Map SemiGlobal n 120 105)) (14 ∷ 15 ∷ 16 ∷ []) ≡ 11 ∷ 0 ∷ 11 ∷ []
   pub volumes : map (λ n. refusal (lending Volume Block n 120 0)) (29 ∷ 30 ∷ 31 ∷ []) ≡ 11 ∷ 0 ∷ 11 ∷ []

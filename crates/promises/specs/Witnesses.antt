@@ -28,7 +28,7 @@ use Rattle.refusals.specs.Writes.{roomFor, byteCount}
 use Rattle.refusals.specs.Given.{writtenGiven}
 use Rattle.sheets.specs.Outcome.{cellsFor, sizeSaid}
 use Rattle.sheets.specs.Given.{SheetIs, saidGiven}
-use Rattle.promises.specs.Floats.{plusZero, minusZero, one}
+use Rattle.promises.specs.Floats.{plusZero, minusZero, one, two}
 
 -- a match of a left picture w wide and 3 high with so many bytes and a right one likewise, the first disparity, count, block side and
 -- mode, a penalty, and the lengths of the output and of the whole-number room; penalty p2 is 1, and the float room has 105 cells
@@ -52,7 +52,7 @@ matchOf w bytes w′ bytes′ first count block mode p1 out whole = record {
   «float_len» = 105;
 }
 
--- one that is accepted, and then one for each of the numbers 1 to 12, which differs from the first in what its row names
+-- one that is accepted, and then one for each row of the table, which differs from the first in what its row names
 abbrev pub calls : List Call
 calls =
     matchOf 5 15 5 15 (pos 0) (pos 2) 3 SemiGlobal one 15 120
@@ -66,6 +66,7 @@ calls =
     ∷ matchOf 5 15 5 15 (pos 0) (pos 2) 5 SemiGlobal one 15 120
     ∷ matchOf 5 15 5 15 (negsuc 4096) (pos 2) 3 SemiGlobal one 15 120
     ∷ matchOf 5 15 5 15 (pos 0) (pos 2) 3 SemiGlobal nan 15 120
+    ∷ matchOf 5 15 5 15 (pos 0) (pos 2) 3 SemiGlobal two 15 120
     ∷ matchOf 5 15 5 15 (pos 0) (pos 2) 3 SemiGlobal one 14 120
     ∷ matchOf 5 15 5 15 (pos 0) (pos 2) 3 SemiGlobal one 15 119
     ∷ []
@@ -84,8 +85,11 @@ sheetSays bytes = saidGiven (sizeSaid (readSheet bytes))
 
 -- EVERY NUMBER is given back for some call
 pub record Reached : Type 0 where
-  -- a match: 0 to 12
-  pub matches : map refusal calls ≡ 0 ∷ 1 ∷ 2 ∷ 3 ∷ 4 ∷ 5 ∷ 6 ∷ 7 ∷ 8 ∷ 9 ∷ 10 ∷ 11 ∷ 12 ∷ []
+  -- a match: 0, and the table's numbers in its order
+  pub matches : map refusal calls ≡ 0 ∷ 1 ∷ 2 ∷ 3 ∷ 4 ∷ 5 ∷ 6 ∷ 7 ∷ 8 ∷ 9 ∷ 10 ∷ 13 ∷ 11 ∷ 12 ∷ []
+  -- 13 where 11 and 12 apply too, and 10 where 13 applies too: penalty p1 is 2, and infinite
+  pub match-13 : refusal (matchOf 5 15 5 15 (pos 0) (pos 2) 3 SemiGlobal two 14 119) ≡ 13
+  pub match-10 : refusal (matchOf 5 15 5 15 (pos 0) (pos 2) 3 SemiGlobal (inf false) 14 119) ≡ 10
   -- the picture of one byte: a width 0, a byte too many, a coordinate that is a NaN, and a pixel outside
   pub pixel-1 : levelGiven (pixelOf (7 ∷ []) 0 1 0 0) ≡ refused 1
   pub pixel-2 : levelGiven (pixelOf (7 ∷ 7 ∷ []) 1 1 0 0) ≡ refused 2

@@ -29,7 +29,13 @@ impl Rng {
     }
 }
 
+/// Two penalties, the second not below the first: otherwise the library refuses what the Rust answers.
+fn penalties(rng: &mut Rng) -> (f32, f32) {
+    rng.pick(&[(0.1, 1.5), (0.1, 1.5), (0.1, PENALTY_MOST), (0.0, 0.05), (-0.0, 0.0), (0.0, -0.0), (2.5, 2.5), (PENALTY_MOST, PENALTY_MOST)])
+}
+
 fn options(rng: &mut Rng, block: usize) -> BlockMatchOptions {
+    let (sgm_p1, sgm_p2) = penalties(rng);
     BlockMatchOptions {
         min_disparity: rng.pick(&[0, 0, 0, -2, 1, -FIRST_MOST, FIRST_MOST]),
         num_disparities: 1 + rng.below(8) as i32,
@@ -40,8 +46,8 @@ fn options(rng: &mut Rng, block: usize) -> BlockMatchOptions {
         lr_max_diff: rng.pick(&[1.0, 1.0, 0.0, 0.5, f32::INFINITY]),
         subpixel: rng.below(2) == 0,
         semi_global: rng.below(2) == 0,
-        sgm_p1: rng.pick(&[0.1, 0.1, 0.0, -0.0, 2.5, PENALTY_MOST]),
-        sgm_p2: rng.pick(&[1.5, 1.5, 0.0, 0.05, PENALTY_MOST]),
+        sgm_p1,
+        sgm_p2,
     }
 }
 

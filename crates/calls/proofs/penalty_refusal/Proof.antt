@@ -2,6 +2,7 @@
 use mathlib.Core.Path.{_≡_, sym, _∙_}
 use mathlib.Core.Bool.{true}
 use borrow.Author.Tests.{not-true, not-false}
+use Rattle.options.specs.Limits.{isPenalty}
 use Rattle.options.specs.Options.{usesPaths}
 use Rattle.refusals.specs.Answered.{firstOf}
 use Rattle.calls.specs.declared.Output.the-variants.{Map}
@@ -16,6 +17,13 @@ map c = c .before .before .enum-told .given .1
 
 paths : (c : tie.Then1) → usesPaths (c .before .before .before .before .args .call .mode) ≡ true
 paths c = sym (c .before .uses-paths .ensures) ∙ c .if1 .taken
+
+-- the penalties in their range, where their order is asked
+p1-in : (c : tie.Else3) → isPenalty (c .before .before .before .before .before .before .before .before .args .call .p1) ≡ true
+p1-in c = sym (c .before .before .before .is-penalty .ensures) ∙ not-false _ (c .before .before .if2 .left)
+
+p2-in : (c : tie.Else3) → isPenalty (c .before .before .before .before .before .before .before .before .args .call .p2) ≡ true
+p2-in c = sym (c .before .is-penalty2 .ensures) ∙ not-false _ (c .if3 .left)
 
 enum-told : tie.Need-enum-told
 enum-told c = search needs
@@ -46,11 +54,15 @@ returns-3 c = let e = c .before .before .before .before in rw (map e, paths e, s
 
 returns-4 : tie.Need-returns-4
 unfolding firstOf penaltyRows
-returns-4 c = let e = c .before .before .before .before in rw (map e, paths e, sym (c .before .before .before .is-penalty .ensures) ∙ not-false _ (c .before .before .if2 .left), sym (c .before .is-penalty2 .ensures) ∙ not-false _ (c .if3 .left))
+returns-4 c = let e = c .before .before in let m = e .before .before .before .before in rw (map m, paths m, p1-in e, p2-in e, c .if4 .taken)
 
 returns-5 : tie.Need-returns-5
 unfolding firstOf penaltyRows
-returns-5 c = rw (c .before .before .enum-told .given .1, sym (c .before .uses-paths .ensures) ∙ c .if1 .left)
+returns-5 c = let e = c .before .before in let m = e .before .before .before .before in rw (map m, paths m, p1-in e, p2-in e, c .if4 .left)
+
+returns-6 : tie.Need-returns-6
+unfolding firstOf penaltyRows
+returns-6 c = rw (c .before .before .enum-told .given .1, sym (c .before .uses-paths .ensures) ∙ c .if1 .left)
 
 pub penalty-refusal-spec : {M : Type 1} → statement M
 penalty-refusal-spec =
@@ -65,4 +77,5 @@ penalty-refusal-spec =
     is-penalty-requires-2
     returns-3
     returns-4
-    returns-5)
+    returns-5
+    returns-6)
