@@ -59,19 +59,25 @@ impl Case {
         Self::lent(self.float_needed(), self.spare.2)
     }
 
-    /// The number of document 01's table for this case, 0 for none, worked out from its words. `volume` says that the raw
-    /// volume is asked for, which skips 10 and needs no float room.
+    /// The number of document 01's table for this case, 0 for none, worked out from its words and those of W-205, which has 13
+    /// straight after 10. `volume` says that the raw volume is asked for, which skips both and needs no float room.
     pub fn refusal(&self, volume: bool) -> u32 {
         let o = &self.options;
         let of = |bytes: &[u8], (width, height): (usize, usize)| LentPicture { width, height, bytes: bytes.len() };
         let (left, right) = (of(&self.left, self.left_size), of(&self.right, self.right_size));
         let pair = Pair { left, right, block: o.block_size, count: o.num_disparities, first: o.min_disparity };
         let fit = |p: f32| p.is_finite() && (0.0..=PENALTY_MOST).contains(&p);
-        let penalties = volume || !o.semi_global || (fit(o.sgm_p1) && fit(o.sgm_p2));
+        let penalties = !volume && o.semi_global;
+        let in_range = fit(o.sgm_p1) && fit(o.sgm_p2);
         let output = self.out_len(volume) == self.out_needed(volume);
         let rooms = self.whole_len() >= self.whole_needed() && (volume || self.float_len() >= self.float_needed());
         match pair.refusal() {
-            0 => first_of(&[(10, !penalties), (11, !output), (12, !rooms)]),
+            0 => first_of(&[
+                (10, penalties && !in_range),
+                (13, penalties && o.sgm_p2 < o.sgm_p1),
+                (11, !output),
+                (12, !rooms),
+            ]),
             number => number,
         }
     }
@@ -87,9 +93,25 @@ fn penalty(rng: &mut Rng) -> f32 {
     rng.pick(&[usual, usual, 0.1, 1.5, 0.0, -0.0, PENALTY_MOST, 1e-45, 700.5])
 }
 
+/// Two penalties, the second not below the first; one pair in ten is equal, zeros of either sign among them.
+fn penalties(rng: &mut Rng) -> (f32, f32) {
+    let (one, other) = (penalty(rng), penalty(rng));
+    if rng.one_in(10) {
+        return rng.pick(&[(one, one), (-0.0, -0.0), (0.0, -0.0), (-0.0, 0.0)]);
+    }
+    if other < one { (other, one) } else { (one, other) }
+}
+
+/// Penalties the wrong way round, as far apart as any two or as close as two numbers can be.
+fn reversed(rng: &mut Rng) -> (f32, f32) {
+    let (p1, p2) = penalties(rng);
+    if p1 < p2 && !rng.one_in(4) { (p2, p1) } else { (p2.max(1e-45), p2.max(1e-45).next_down()) }
+}
+
 pub fn options(rng: &mut Rng, blocks: &[usize], count_most: i64) -> Options {
     let count = if rng.one_in(6) { 1 } else { rng.within(1, count_most) };
     let near = rng.within(-6, 4) as i32;
+    let (sgm_p1, sgm_p2) = if rng.one_in(8) { reversed(rng) } else { penalties(rng) };
     Options {
         min_disparity: rng.pick(&[0, 0, near, near, -FIRST_MOST, FIRST_MOST, -30]),
         num_disparities: count as i32,
@@ -100,8 +122,8 @@ pub fn options(rng: &mut Rng, blocks: &[usize], count_most: i64) -> Options {
         lr_max_diff: gate(rng),
         subpixel: rng.one_in(2),
         semi_global: rng.one_in(2),
-        sgm_p1: penalty(rng),
-        sgm_p2: penalty(rng),
+        sgm_p1,
+        sgm_p2,
     }
 }
 
@@ -114,6 +136,15 @@ pub fn small(rng: &mut Rng) -> Case {
     let right = other_picture(rng, &left, w, h);
     let options = options(rng, &[block], 12);
     Case::of(w, h, left, right, options)
+}
+
+/// A small semi-global case with p2 below p1, and in three of four a row after 13 that applies too.
+pub fn wrong_way_round(rng: &mut Rng) -> Case {
+    let mut case = small(rng);
+    case.options.semi_global = true;
+    (case.options.sgm_p1, case.options.sgm_p2) = reversed(rng);
+    case.spare = rng.pick(&[case.spare, (-1, 0, 0), (0, -1, 0), (1, 0, -1)]);
+    case
 }
 
 /// A textured pair of a given size, mostly like what a site would send.
@@ -129,7 +160,7 @@ pub fn unfit(rng: &mut Rng) -> Case {
     let mut case = small(rng);
     let (w, h) = case.left_size;
     for _ in 0..1 + rng.below(2) {
-        match rng.below(16) {
+        match rng.below(17) {
             0 => case.left_size.0 = rng.pick(&[0, SIDE_MOST + 1, usize::MAX, case.left_size.0 + 1]),
             1 => case.right_size.1 = rng.pick(&[0, SIDE_MOST + 1, usize::MAX / 2, case.right_size.1 + 1]),
             2 => case.left.push(0),
@@ -142,8 +173,12 @@ pub fn unfit(rng: &mut Rng) -> Case {
             9 => case.options.min_disparity = rng.pick(&[-FIRST_MOST - 1, FIRST_MOST + 1, i32::MIN, i32::MAX]),
             10 => case.options.sgm_p1 = rng.pick(&[-1e-45, PENALTY_MOST.next_up(), f32::NAN, f32::INFINITY, -1.0]),
             11 => case.options.sgm_p2 = rng.pick(&[-0.5, 2.0 * PENALTY_MOST, f32::NAN, f32::NEG_INFINITY]),
-            12 => case.spare.0 = rng.pick(&[-1, 1, 7]),
-            13 | 14 => {
+            12 => {
+                case.options.semi_global = true;
+                (case.options.sgm_p1, case.options.sgm_p2) = reversed(rng);
+            }
+            13 => case.spare.0 = rng.pick(&[-1, 1, 7]),
+            14 | 15 => {
                 // another size, with as many bytes
                 case.right_size = rng.pick(&[(w + 1, h), (w, h + 1), (w, 2 * h), (h + w, h)]);
                 case.right = picture(rng, case.right_size.0, case.right_size.1);

@@ -125,6 +125,11 @@ pub fn check_volume(case: &Case, from_right: bool) -> Result<(), String> {
     same_cells("raw volume", &out, &rust)
 }
 
+/// A match alone, and the number that it answers.
+pub fn check_number(case: &Case) -> Result<u32, String> {
+    check_match(case).map(|()| case.refusal(false))
+}
+
 /// Everything that one case can show.
 pub fn check(case: &Case) -> Result<(), String> {
     check_match(case)?;

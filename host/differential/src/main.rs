@@ -67,9 +67,19 @@ impl Run {
         for (kind, n) in &self.tallies {
             println!("{n:>9} {kind}");
         }
-        let given: Vec<String> = (1..13).chain(21..27).map(|n| format!("{n}: {}", self.refusals[n])).collect();
+        let given: Vec<String> = (1..14).chain(21..27).map(|n| format!("{n}: {}", self.refusals[n])).collect();
         println!("{:>9} accepted; refusals {}", self.refusals[0], given.join(", "));
         println!("{:>9} pairs matched", self.matched);
+    }
+}
+
+/// How many semi-global calls with p2 below p1 are made.
+const WRONG_WAY_ROUND: usize = 10_000;
+
+/// Penalties the wrong way round; whatever else is wrong after them, the answer is 13.
+fn wrong_way_round(run: &mut Run, rng: &mut Rng) {
+    for _ in 0..WRONG_WAY_ROUND {
+        run.try_other("penalties the wrong way round", &case::wrong_way_round(rng), compare::check_number);
     }
 }
 
@@ -142,6 +152,7 @@ fn main() {
     let mut run = Run { seed, tallies: Vec::new(), refusals: [0; 27], matched: 0 };
 
     named(&mut run);
+    wrong_way_round(&mut run, &mut Rng::new(seed.rotate_left(32)));
     exhaustive(&mut run, &mut rng, share(15));
     others(&mut run, &mut Rng::new(!seed), share(35));
     while Instant::now() < share(75) {

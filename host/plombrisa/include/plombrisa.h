@@ -13,7 +13,8 @@ extern "C" {
 #endif
 
 /* The map of two pictures: cell (x, y) in cell y*w + x of out, a NaN where it is blank. whole_room needs 5(w+1)(h+1) cells,
- * float_room V + w*h, or 3V + w*h in semi-global mode, with V = num_disparities*w*h. */
+ * float_room V + w*h, or 3V + w*h in semi-global mode, with V = num_disparities*w*h. In semi-global mode the penalties are from 0
+ * to 1,024, and sgm_p2 is not below sgm_p1. */
 uint32_t plombrisa_match_block(
     const uint8_t *left, size_t left_len, size_t left_width, size_t left_height,
     const uint8_t *right, size_t right_len, size_t right_width, size_t right_height,

@@ -170,6 +170,7 @@ pub struct Options {
     pub subpixel: bool,
     pub semi_global: bool,
     pub sgm_p1: f32,
+    /// Not below `sgm_p1`, or a semi-global match is refused.
     pub sgm_p2: f32,
 }
 

@@ -33,8 +33,9 @@ const CELLS: Grouped = Grouped(limits::CELLS_MOST as u64);
 /// Makes the enum of a table of refusals, the list of them all, and what is said of each.
 macro_rules! refusals {
     ($($name:ident = $number:literal: $sentence:literal,)*) => {
-        /// Why a call was refused: the rows of the table of document 01, and 28, which the row index added, from 31 those that sheets,
-        /// from 41 those that PGM and PFM files and from 51 those that the heap's volume added, each with its number.
+        /// Why a call was refused: the rows of the table of document 01, 13, which is tested straight after 10, and 28, which the row
+        /// index added, from 31 those that sheets, from 41 those that PGM and PFM files and from 51 those that the heap's volume
+        /// added, each with its number.
         #[derive(Debug, Clone, Copy, PartialEq, Eq)]
         #[repr(u32)]
         pub enum Refusal {
@@ -66,6 +67,7 @@ refusals! {
     PictureSmallerThanBlock = 8: "the pictures are narrower or lower than the block",
     FirstOutOfRange = 9: "the first disparity is outside -{FIRST} to {FIRST}",
     PenaltyOutOfRange = 10: "a penalty is not finite or outside 0 to {PENALTY}",
+    PenaltiesReversed = 13: "the penalty sgm_p2 is below sgm_p1",
     OutputLength = 11: "the output's length does not fit",
     RoomTooShort = 12: "a room is too short",
     CameraOutOfRange = 21: "fx or fy is not finite and positive, or cx or cy is not finite",
@@ -132,6 +134,6 @@ mod tests {
         for refusal in Refusal::ALL {
             assert_eq!(Refusal::of_number(refusal.number()), Some(*refusal));
         }
-        assert_eq!([0, 13, 27, 56].map(Refusal::of_number), [None; 4]);
+        assert_eq!([0, 14, 27, 56].map(Refusal::of_number), [None; 4]);
     }
 }

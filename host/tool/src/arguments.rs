@@ -26,7 +26,7 @@ OPTION, how the pictures are matched; check takes the first four and no other:
   --no-lr                 leave out the left-right test
   --lr-max-diff X         the most that the left-right test lets the two sides differ (1)
   --no-subpixel           whole disparities only
-  --sgm-p1 X, --sgm-p2 X  the penalties of semi-global maps (0.1, 1.5)
+  --sgm-p1 X, --sgm-p2 X  the penalties of semi-global maps (0.1, 1.5), p2 not below p1
 
 CAMERA, all of them:
   --fx X, --fy X          the focal lengths in pixels

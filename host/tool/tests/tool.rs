@@ -445,6 +445,7 @@ fn pictures_that_the_matcher_refuses() {
     turned_away(LEFT, RIGHT, "many", &["--num-disparities", &(COUNT_MOST + 1).to_string()], &["refused, 7: "]);
     turned_away(LEFT, RIGHT, "first", &["--min-disparity", &(FIRST_MOST + 1).to_string()], &["refused, 9: "]);
     turned_away(LEFT, RIGHT, "penalty", &["--semi-global", "--sgm-p1", "NaN"], &["refused, 10: "]);
+    turned_away(LEFT, RIGHT, "reversed", &["--semi-global", "--sgm-p1", "1.5", "--sgm-p2", "0.1"], &["refused, 13: "]);
 }
 
 #[test]
