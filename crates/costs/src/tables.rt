@@ -2,23 +2,25 @@
 ghost use mathlib.Core.Path.{_≡_};
 ghost use mathlib.Core.List.{List};
 ghost use Prim.Native.Nat.{ℕ, _^_, _≤_};
+ghost use Rattle.numbers.specs.Root.{FirstRoots};
 ghost use Rattle.costs.specs.Roots.{rootBits, windowCell, sumIn, rootIn, pictureTables};
 ghost use Rattle.costs.specs.Rooms.{TablesFrom, TablesTurned, PictureRoom};
-use numbers::root::root;
+use numbers::first_roots::first_roots;
+use numbers::root::root_from;
 use windows::fill_levels;
 use windows::fill_squares;
 use windows::variance;
 use windows::window_sum;
 
 // The bits of the root of a variance, 0 for 0.
-fn root_bits(variance: u64) -> u64
-    requires { ⌜ variance ≤ 2 ^ 53 ⌝ }
+fn root_bits(firsts: &[u8; 768], variance: u64) -> u64
+    requires { ⌜ (variance ≤ 2 ^ 53) × FirstRoots (now firsts) ⌝ }
     ensures { λ r. ⌜ r ≡ rootBits variance ⌝ }
 {
     if variance == 0 {
         0
     } else {
-        f64::to_bits(root(variance))
+        f64::to_bits(root_from(firsts, variance))
     }
 }
 
@@ -40,8 +42,8 @@ fn sum_at(pair: &[u64], w: usize, h: usize, r: usize, i: usize) -> u64
 }
 
 // The bits of the root of the variance of the window whose top left corner is cell i, 0 where none fits.
-fn root_at(pair: &[u64], w: usize, h: usize, r: usize, i: usize) -> u64
-    requires { ⌜ TablesTurned (now pair) w h r i ⌝ }
+fn root_at(firsts: &[u8; 768], pair: &[u64], w: usize, h: usize, r: usize, i: usize) -> u64
+    requires { ⌜ TablesTurned (now pair) w h r i × FirstRoots (now firsts) ⌝ }
     ensures { λ v. ⌜ ((pic : List ℕ) → TablesFrom (now (pair .entry)) w h i pic → v ≡ windowCell w h r (rootIn w r pic) i) ⌝ }
 {
     let side = w + 1;
@@ -56,11 +58,12 @@ fn root_at(pair: &[u64], w: usize, h: usize, r: usize, i: usize) -> u64
     let n = 2 * r + 1;
     let sum = window_sum(pair, side, i, n);
     let squares = window_sum(pair, side, side * (h + 1) + i, n);
-    root_bits(variance((n * n) as u64, sum, squares))
+    root_bits(firsts, variance((n * n) as u64, sum, squares))
 }
 
 // The two tables of a picture: sums and roots, which take the place of levels and squares cell by cell.
 // No later window reads a cell that is written: it is the top left corner, the first of the four.
+// The roots' table is made before the loop, once for all of them.
 pub fn fill_picture(pair: &mut [u64], pic: &[u8], w: usize, h: usize, r: usize)
     requires { ⌜ PictureRoom (now pair) (now pic) w h r ⌝ }
     ensures { λ _. ⌜ now (pair .exit) ≡ pictureTables w h r (now (pic .entry)) ⌝ }
@@ -69,10 +72,11 @@ pub fn fill_picture(pair: &mut [u64], pic: &[u8], w: usize, h: usize, r: usize)
     let end = 2 * cells;
     fill_levels(&mut pair[0..cells], pic, w, h);
     fill_squares(&mut pair[cells..end], pic, w, h);
+    let firsts = first_roots();
     let mut i = 0;
     while i < cells {
         let sum = sum_at(pair, w, h, r, i);
-        let bits = root_at(pair, w, h, r, i);
+        let bits = root_at(&firsts, pair, w, h, r, i);
         pair[i] = sum;
         pair[cells + i] = bits;
         i += 1;

@@ -12,16 +12,16 @@ use Rattle.costs.proofs.tables.fill_picture.Statement.{statement}
 use Rattle.costs.proofs.tables.fill_picture.Tie as tie
 
 abbrev Inv-loop : tie.InvT-loop
-Inv-loop pair₀ pic w h r cells end i₀ pair i = TurnInv w h r pic pair i
+Inv-loop pair₀ pic w h r cells end firsts i₀ pair i = TurnInv w h r pic pair i
 
 abbrev μ-loop : tie.MeasureT-loop
-μ-loop pair₀ pic w h r cells end i₀ pair i = cells - i
+μ-loop pair₀ pic w h r cells end firsts i₀ pair i = cells - i
 
 -- the picture's bytes, as the slice has them
-picture : (c : tie.At-loop Inv-loop μ-loop) → Picture (c .before .before .before .before .before .before .before .before .before .before .before .args .w) (c .before .before .before .before .before .before .before .before .before .before .before .args .h) (now (c .before .before .before .before .before .before .before .before .before .before .before .args .pic))
-picture c = record { bytes = c .before .before .before .before .before .before .before .before .before .before .before .pre .bytes; small = λ i. omega (arith, c .before .before .before .before .before .before .before .before .before .shared-slice-known .given i) }
+picture : (c : tie.At-loop Inv-loop μ-loop) → Picture (c .before .before .before .before .before .before .before .before .before .before .before .before .args .w) (c .before .before .before .before .before .before .before .before .before .before .before .before .args .h) (now (c .before .before .before .before .before .before .before .before .before .before .before .before .args .pic))
+picture c = record { bytes = c .before .before .before .before .before .before .before .before .before .before .before .before .pre .bytes; small = λ i. omega (arith, c .before .before .before .before .before .before .before .before .before .before .shared-slice-known .given i) }
 
-length-of : (c : tie.At-loop Inv-loop μ-loop) → length (c .loop .pair) ≡ 2 * cells (c .before .before .before .before .before .before .before .before .before .before .before .args .w) (c .before .before .before .before .before .before .before .before .before .before .before .args .h)
+length-of : (c : tie.At-loop Inv-loop μ-loop) → length (c .loop .pair) ≡ 2 * cells (c .before .before .before .before .before .before .before .before .before .before .before .before .args .w) (c .before .before .before .before .before .before .before .before .before .before .before .before .args .h)
 length-of c = turn-length _ _ _ _ _ _ (c .loop .inv)
 
 add-cells : tie.Need-add-cells Inv-loop μ-loop
@@ -63,57 +63,60 @@ part-fill-squares-end c = search needs
 fill-squares-requires : tie.Need-fill-squares-requires Inv-loop μ-loop
 fill-squares-requires c κs = search needs
 
+first-roots-requires : tie.Need-first-roots-requires Inv-loop μ-loop
+first-roots-requires c κs = search needs
+
 loop-holds : tie.Need-loop-holds Inv-loop μ-loop
 loop-holds c =
-    let z = c .before .before .before .before .before .before .before .before .before .before in
-    turn-start _ _ _ _ _ _ _ (z .pre .cells-of) (c .before .before .before .before .before .before .fill-levels .ensures) (c .before .before .fill-squares .ensures)
+    let z = c .before .before .before .before .before .before .before .before .before .before .before in
+    turn-start _ _ _ _ _ _ _ (z .pre .cells-of) (c .before .before .before .before .before .before .before .fill-levels .ensures) (c .before .before .before .fill-squares .ensures)
 
 -- the tables that are left from cell i on
-left-over : (c : tie.In-loop Inv-loop μ-loop) → TablesFrom (c .before .loop .pair) (c .before .before .before .before .before .before .before .before .before .before .before .before .args .w) (c .before .before .before .before .before .before .before .before .before .before .before .before .args .h) (c .before .loop .i) (now (c .before .before .before .before .before .before .before .before .before .before .before .before .args .pic))
+left-over : (c : tie.In-loop Inv-loop μ-loop) → TablesFrom (c .before .loop .pair) (c .before .before .before .before .before .before .before .before .before .before .before .before .before .args .w) (c .before .before .before .before .before .before .before .before .before .before .before .before .before .args .h) (c .before .loop .i) (now (c .before .before .before .before .before .before .before .before .before .before .before .before .before .args .pic))
 left-over c = turning _ _ _ _ _ _ (c .before .loop .inv) (picture (c .before))
 
-held : (c : tie.In-loop Inv-loop μ-loop) → TablesTurned (c .before .loop .pair) (c .before .before .before .before .before .before .before .before .before .before .before .before .args .w) (c .before .before .before .before .before .before .before .before .before .before .before .before .args .h) (c .before .before .before .before .before .before .before .before .before .before .before .before .args .r) (c .before .loop .i)
+held : (c : tie.In-loop Inv-loop μ-loop) → TablesTurned (c .before .loop .pair) (c .before .before .before .before .before .before .before .before .before .before .before .before .before .args .w) (c .before .before .before .before .before .before .before .before .before .before .before .before .before .args .h) (c .before .before .before .before .before .before .before .before .before .before .before .before .before .args .r) (c .before .loop .i)
 held c =
-    let z = c .before .before .before .before .before .before .before .before .before .before .before .before in
+    let z = c .before .before .before .before .before .before .before .before .before .before .before .before .before in
     record { pic = now (z .args .pic); frame = z .pre .frame; among = c .loop-test .taken; held = left-over c }
 
 sum-at-requires : tie.Need-sum-at-requires Inv-loop μ-loop
 sum-at-requires c κs = held (c .before)
 
 root-at-requires : tie.Need-root-at-requires Inv-loop μ-loop
-root-at-requires c κs = held (c .before .before .before)
+root-at-requires c κs = (held (c .before .before .before .before), c .before .before .before .before .before .before .first-roots .ensures)
 
 -- the cells that are written, and the next turn's number
-room : (c : tie.After-root-at Inv-loop μ-loop) → (cells (c .before .before .before .before .before .before .before .before .before .before .before .before .before .before .before .before .args .w) (c .before .before .before .before .before .before .before .before .before .before .before .before .before .before .before .before .args .h) + c .before .before .before .before .before .loop .i < length (c .before .before .before .before .before .loop .pair)) × (length (c .before .before .before .before .before .loop .pair) ≡ length (now (c .before .before .before .before .before .before .before .before .before .before .before .before .before .before .before .before .args .pair)))
-room c = (omega (arith, length-of (c .before .before .before .before .before), c .before .before .before .before .loop-test .taken), length-of (c .before .before .before .before .before) ∙ sym (c .before .before .before .before .before .before .before .before .before .before .before .before .before .before .before .before .pre .cells-of))
+room : (c : tie.After-root-at Inv-loop μ-loop) → (cells (c .before .before .before .before .before .before .before .before .before .before .before .before .before .before .before .before .before .before .args .w) (c .before .before .before .before .before .before .before .before .before .before .before .before .before .before .before .before .before .before .args .h) + c .before .before .before .before .before .before .loop .i < length (c .before .before .before .before .before .before .loop .pair)) × (length (c .before .before .before .before .before .before .loop .pair) ≡ length (now (c .before .before .before .before .before .before .before .before .before .before .before .before .before .before .before .before .before .before .args .pair)))
+room c = (omega (arith, length-of (c .before .before .before .before .before .before), c .before .before .before .before .before .loop-test .taken), length-of (c .before .before .before .before .before .before) ∙ sym (c .before .before .before .before .before .before .before .before .before .before .before .before .before .before .before .before .before .before .pre .cells-of))
 
 mul-pair : tie.Need-mul-pair Inv-loop μ-loop
-mul-pair c = omega (arith, room c, c .before .before .before .before .before .before .before .before .before .before .before .before .before .before .before .before .good)
+mul-pair c = omega (arith, room c, c .before .before .before .before .before .before .before .before .before .before .before .before .before .before .before .before .before .before .good)
 
 slice-write-pair : tie.Need-slice-write-pair Inv-loop μ-loop
 slice-write-pair c = omega (arith, room c)
 
 add-pair : tie.Need-add-pair Inv-loop μ-loop
-add-pair c = omega (arith, room c, c .before .before .before .before .before .before .before .before .before .before .before .before .before .before .before .before .good)
+add-pair c = omega (arith, room c, c .before .before .before .before .before .before .before .before .before .before .before .before .before .before .before .before .before .before .good)
 
 mul-pair-2 : tie.Need-mul-pair-2 Inv-loop μ-loop
-mul-pair-2 c = omega (arith, room c, c .before .before .before .before .before .before .before .before .before .before .before .before .before .before .before .before .good)
+mul-pair-2 c = omega (arith, room c, c .before .before .before .before .before .before .before .before .before .before .before .before .before .before .before .before .before .before .good)
 
 slice-write-pair-2 : tie.Need-slice-write-pair-2 Inv-loop μ-loop
 slice-write-pair-2 c = rw length-set (omega (arith, room c))
 
 add-i : tie.Need-add-i Inv-loop μ-loop
-add-i c = omega (arith, room c, c .before .before .before .before .before .before .before .before .before .before .before .before .before .before .before .before .good)
+add-i c = omega (arith, room c, c .before .before .before .before .before .before .before .before .before .before .before .before .before .before .before .before .before .before .good)
 
 loop-less : tie.Need-loop-less Inv-loop μ-loop
-loop-less c = omega (arith, c .before .before .before .before .loop-test .taken)
+loop-less c = omega (arith, c .before .before .before .before .before .loop-test .taken)
 
 loop-again : tie.Need-loop-again Inv-loop μ-loop
 loop-again c =
-    turn-again _ _ _ _ _ _ (c .before .before .before .before .before .loop .inv) (c .before .before .before .before .loop-test .taken) _ _ (c .before .before .sum-at .ensures _ (left-over (c .before .before .before .before))) (c .root-at .ensures _ (left-over (c .before .before .before .before)))
+    turn-again _ _ _ _ _ _ (c .before .before .before .before .before .before .loop .inv) (c .before .before .before .before .before .loop-test .taken) _ _ (c .before .before .before .sum-at .ensures _ (left-over (c .before .before .before .before .before))) (c .root-at .ensures _ (left-over (c .before .before .before .before .before)))
 
 same-length : tie.Need-same-length Inv-loop μ-loop
-same-length c = turn-length _ _ _ _ _ _ (c .before .loop .inv) ∙ sym (c .before .before .before .before .before .before .before .before .before .before .before .before .pre .cells-of)
+same-length c = turn-length _ _ _ _ _ _ (c .before .loop .inv) ∙ sym (c .before .before .before .before .before .before .before .before .before .before .before .before .before .pre .cells-of)
 
 returns : tie.Need-returns Inv-loop μ-loop
 returns c = turn-done _ _ _ _ _ _ (c .before .loop .inv) (c .loop-test .left)
@@ -137,6 +140,7 @@ fill-picture-spec =
     part-fill-squares-start
     part-fill-squares-end
     fill-squares-requires
+    first-roots-requires
     loop-holds
     sum-at-requires
     root-at-requires

@@ -13,8 +13,8 @@ use Rattle.costs.proofs.tables.root_at.Tie as tie
 
 below : (c : tie.After-window-sum2) → pixels (c .before .before .before .before .before .args .r) * c .window-sum2 .result < 2 ^ 53
 below c =
-    squares-below _ _ _ _ _ (c .before .before .before .if1 .left) (c .before .before .if2 .left) _ (c .before .before .before .before .before .pre .held) _ _ (c .before .window-sum .ensures) (c .window-sum2 .ensures)
-    (c .before .before .before .before .before .pre .frame .r-most)
+    squares-below _ _ _ _ _ (c .before .before .before .if1 .left) (c .before .before .if2 .left) _ (c .before .before .before .before .before .pre .0 .held) _ _ (c .before .window-sum .ensures) (c .window-sum2 .ensures)
+    (c .before .before .before .before .before .pre .0 .frame .r-most)
 
 add-side : tie.Need-add-side
 add-side c = search needs
@@ -38,7 +38,7 @@ mul-if2 : tie.Need-mul-if2
 mul-if2 c = search needs
 
 add-if2 : tie.Need-add-if2
-add-if2 c = let z = c .before .before in omega (arith, row-in (z .args .w) (z .args .h) (z .args .i) (z .pre .among), z .pre .frame)
+add-if2 c = let z = c .before .before in omega (arith, row-in (z .args .w) (z .args .h) (z .args .i) (z .pre .0 .among), z .pre .0 .frame)
 
 returns-2 : tie.Need-returns-2
 returns-2 c = λ pic t. let z = c .before .before .before in no-row _ _ _ (rootIn (z .args .w) (z .args .r) pic) _ (c .before .if1 .left) (c .if2 .taken)
@@ -50,7 +50,7 @@ add-n : tie.Need-add-n
 add-n c = search needs
 
 window-sum-requires : tie.Need-window-sum-requires
-window-sum-requires c κs = levels-corners _ _ _ _ _ (c .before .if1 .left) (c .if2 .left) _ (c .before .before .before .pre .held)
+window-sum-requires c κs = levels-corners _ _ _ _ _ (c .before .if1 .left) (c .if2 .left) _ (c .before .before .before .pre .0 .held)
 
 add-window-sum : tie.Need-add-window-sum
 add-window-sum c = search needs
@@ -59,19 +59,19 @@ mul-window-sum : tie.Need-mul-window-sum
 mul-window-sum c = search needs
 
 add-window-sum-2 : tie.Need-add-window-sum-2
-add-window-sum-2 c = let z = c .before .before .before .before in omega (arith, z .pre .among, z .pre .frame, cells-most (z .args .w) (z .args .h) (z .pre .frame .w-most) (z .pre .frame .h-most))
+add-window-sum-2 c = let z = c .before .before .before .before in omega (arith, z .pre .0 .among, z .pre .0 .frame, cells-most (z .args .w) (z .args .h) (z .pre .0 .frame .w-most) (z .pre .0 .frame .h-most))
 
 window-sum-requires-2 : tie.Need-window-sum-requires-2
-window-sum-requires-2 c κs = squares-corners _ _ _ _ _ (c .before .before .if1 .left) (c .before .if2 .left) _ (c .before .before .before .before .pre .held)
+window-sum-requires-2 c κs = squares-corners _ _ _ _ _ (c .before .before .if1 .left) (c .before .if2 .left) _ (c .before .before .before .before .pre .0 .held)
 
 mul-variance : tie.Need-mul-variance
-mul-variance c = let z = c .before .before .before .before .before in let side : 2 * z .args .r + 1 ≤ 31 = omega (arith, z .pre .frame .r-most) in omega (arith, mul-le-mul side side)
+mul-variance c = let z = c .before .before .before .before .before in let side : 2 * z .args .r + 1 ≤ 31 = omega (arith, z .pre .0 .frame .r-most) in omega (arith, mul-le-mul side side)
 
 variance-requires : tie.Need-variance-requires
-variance-requires c κs = (below c, square-most _ _ _ _ _ (c .before .before .before .if1 .left) (c .before .before .if2 .left) _ (c .before .before .before .before .before .pre .held) _ _ (c .before .window-sum .ensures) (c .window-sum2 .ensures))
+variance-requires c κs = (below c, square-most _ _ _ _ _ (c .before .before .before .if1 .left) (c .before .before .if2 .left) _ (c .before .before .before .before .before .pre .0 .held) _ _ (c .before .window-sum .ensures) (c .window-sum2 .ensures))
 
 root-bits-requires : tie.Need-root-bits-requires
-root-bits-requires c κs = rw (c .variance .ensures) (omega (arith, below (c .before)))
+root-bits-requires c κs = (rw (c .variance .ensures) (omega (arith, below (c .before))), c .before .before .before .before .before .before .pre .1)
 
 returns-3 : tie.Need-returns-3
 returns-3 c = λ pic t.
