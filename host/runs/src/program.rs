@@ -26,12 +26,17 @@ pub fn shell_line(line: &str) -> Command {
     command
 }
 
+/// A run's words, which are whole numbers; in place of missing ones those that are given here.
+pub fn words_or<const N: usize>(mut words: [u64; N]) -> [u64; N] {
+    for (word, given) in words.iter_mut().zip(std::env::args().skip(1)) {
+        *word = given.parse().expect("a run's words are whole numbers");
+    }
+    words
+}
+
 /// Prints and gives a run's words SEED and COUNT, in place of missing ones 1 and a million.
 pub fn seed_and_count() -> (u64, u64) {
-    let number = |word: String| word.parse().expect("SEED and COUNT are whole numbers");
-    let words: Vec<u64> = std::env::args().skip(1).map(number).collect();
-    let seed = words.first().copied().unwrap_or(1);
-    let count = words.get(1).copied().unwrap_or(1_000_000);
+    let [seed, count] = words_or([1, 1_000_000]);
     println!("seed {seed}, {count} inputs");
     (seed, count)
 }
