@@ -5,6 +5,7 @@ ghost use Prim.Native.Nat.{ℕ, _^_, _≤_};
 ghost use Rattle.numbers.specs.Root.{FirstRoots};
 ghost use Rattle.costs.specs.Roots.{rootBits, windowCell, sumIn, rootIn, pictureTables};
 ghost use Rattle.costs.specs.Rooms.{TablesFrom, TablesTurned, PictureRoom};
+use numbers::first_roots::Firsts;
 use numbers::first_roots::first_roots;
 use numbers::root::root_from;
 use windows::fill_levels;
@@ -13,7 +14,7 @@ use windows::variance;
 use windows::window_sum;
 
 // The bits of the root of a variance, 0 for 0.
-fn root_bits(firsts: &[u8; 768], variance: u64) -> u64
+fn root_bits(firsts: &Firsts, variance: u64) -> u64
     requires { ⌜ (variance ≤ 2 ^ 53) × FirstRoots (now firsts) ⌝ }
     ensures { λ r. ⌜ r ≡ rootBits variance ⌝ }
 {
@@ -42,7 +43,7 @@ fn sum_at(pair: &[u64], w: usize, h: usize, r: usize, i: usize) -> u64
 }
 
 // The bits of the root of the variance of the window whose top left corner is cell i, 0 where none fits.
-fn root_at(firsts: &[u8; 768], pair: &[u64], w: usize, h: usize, r: usize, i: usize) -> u64
+fn root_at(firsts: &Firsts, pair: &[u64], w: usize, h: usize, r: usize, i: usize) -> u64
     requires { ⌜ TablesTurned (now pair) w h r i × FirstRoots (now firsts) ⌝ }
     ensures { λ v. ⌜ ((pic : List ℕ) → TablesFrom (now (pair .entry)) w h i pic → v ≡ windowCell w h r (rootIn w r pic) i) ⌝ }
 {

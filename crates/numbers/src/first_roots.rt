@@ -3,8 +3,11 @@
 ghost use Prim.Native.Nat.{_≤_, _<_};
 ghost use Rattle.numbers.specs.Root.{FirstRoot, FirstRoots};
 
+// A number for each i from 256 to 1,023.
+pub type Firsts = [u8; 768];
+
 // The first roots: for each i from 256 to 1,023 the largest whole number whose square is at most 64·i.
-const FIRST_ROOTS: [u8; 768] = [
+const FIRST_ROOTS: Firsts = [
     128,
     128,
     128,
@@ -776,14 +779,14 @@ const FIRST_ROOTS: [u8; 768] = [
 ];
 
 // The table, all of whose entries are first roots.
-pub fn first_roots() -> [u8; 768]
+pub fn first_roots() -> Firsts
     ensures { λ r. ⌜ FirstRoots r ⌝ }
 {
     FIRST_ROOTS
 }
 
 // The first root of i.
-pub fn first_root(firsts: &[u8; 768], i: usize) -> u8
+pub fn first_root(firsts: &Firsts, i: usize) -> u8
     requires { ⌜ (256 ≤ i) × (i < 1024) × FirstRoots (now firsts) ⌝ }
     ensures { λ r. ⌜ FirstRoot i r ⌝ }
 {

@@ -13,7 +13,7 @@ const MOST: u64 = 1 << 53;
 
 unsafe extern "C" {
     /// Of crates/roots: the bits of the root of any number from 1 to 2^53, and 0 for any other.
-    safe fn root_bits(n: u64) -> u64;
+    safe fn root_pattern(n: u64) -> u64;
 }
 
 /// What the processor has.
@@ -25,7 +25,7 @@ fn expected(n: u64) -> u64 {
 fn compare(what: &str, numbers: impl Iterator<Item = u64>) {
     let mut compared = 0u64;
     for n in numbers {
-        let (library, processor) = (root_bits(n), expected(n));
+        let (library, processor) = (root_pattern(n), expected(n));
         if library != processor {
             println!("{what}: the root of {n} is {library:016X}, and the processor's {processor:016X}");
             exit(1);
