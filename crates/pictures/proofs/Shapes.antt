@@ -1,5 +1,5 @@
 -- What a picture, and a pixel, that are not refused have, and a pixel's byte. Assumes nothing.
-use mathlib.Core.Path.{_≡_}
+use mathlib.Core.Path.{_≡_, sym, _∙_}
 use mathlib.Core.Logic.{⊎-elim}
 use Prim.Native.Nat.{ℕ, _+_, _*_, _≤_, _<_}
 use native.Mathlib.Nat.{mul-le-mul}
@@ -16,13 +16,17 @@ use Rattle.lists.proofs.Tests.{and-both, lt-or-le}
 use Rattle.lists.proofs.Rows.{pixel-in, row-at}
 use Rattle.options.specs.Limits.{sideMost, isSide}
 use Rattle.options.proofs.Sides.{side-fits}
-use Rattle.refusals.specs.Answered.{row, firstOf, Numbered}
+use Rattle.refusals.specs.Answered.{row, firstOf, Numbered, NoneApplies}
 use Rattle.refusals.proofs.Answering.{none-of}
 use Rattle.refusals.proofs.Groups.{none-of-both}
 use Rattle.pictures.specs.Picture.{Bytes, shapeRows, levelRows}
 
 pub shape-numbered : (bytes w h : ℕ) → Numbered (shapeRows bytes w h)
 shape-numbered bytes w h = (lit< tt, (lit< tt, tt))
+
+-- the picture's rows, which a caller has asked and found none
+pub shape-passed : (bytes w h n : ℕ) → n ≡ firstOf (shapeRows bytes w h) → n ≡ 0 → NoneApplies (shapeRows bytes w h)
+shape-passed bytes w h n e none = none-of (shapeRows bytes w h) (shape-numbered bytes w h) (sym e ∙ none)
 
 -- a picture that is not refused
 pub record Whole (bytes w h : ℕ) : Type 0 where

@@ -69,8 +69,8 @@ matchOf w h first count block p1 p2 =
     callOf Map SemiGlobal w h first count block p1 p2 (w * h) (5 * ((w + 1) * (h + 1))) (3 * (natAbs count * (w * h)) + w * h)
 
 -- 1,024
-abbrev thousand : Float
-thousand = ofBits binary32 0x44800000
+abbrev largestPenalty : Float
+largestPenalty = ofBits binary32 0x44800000
 
 -- the f32 next below zero, minus zero, zero, 1,024, the f32 next above it, infinity and a NaN
 abbrev penalties : List Float
@@ -78,7 +78,7 @@ penalties =
     ofBits binary32 0x80000001
     ∷ minusZero
     ∷ plusZero
-    ∷ thousand
+    ∷ largestPenalty
     ∷ ofBits binary32 0x44800001
     ∷ inf false
     ∷ nan
@@ -173,7 +173,7 @@ pub record LimitsHeld : Type 0 where
   -- the first disparity: from -4,096 to 4,096
   pub firsts : map (λ z. refusal (matchOf 3 3 z (pos 1) 3 one one)) (minus 4097 ∷ minus 4096 ∷ pos 4096 ∷ pos 4097 ∷ []) ≡ 9 ∷ 0 ∷ 0 ∷ 9 ∷ []
   -- either penalty: from 0 to 1,024, and minus zero
-  pub penalties-1 : map (λ p. refusal (matchOf 3 3 (pos 0) (pos 1) 3 p thousand)) penalties ≡ 10 ∷ 0 ∷ 0 ∷ 0 ∷ 10 ∷ 10 ∷ 10 ∷ []
+  pub penalties-1 : map (λ p. refusal (matchOf 3 3 (pos 0) (pos 1) 3 p largestPenalty)) penalties ≡ 10 ∷ 0 ∷ 0 ∷ 0 ∷ 10 ∷ 10 ∷ 10 ∷ []
   pub penalties-2 : map (λ p. refusal (matchOf 3 3 (pos 0) (pos 1) 3 plusZero p)) penalties ≡ 10 ∷ 0 ∷ 0 ∷ 0 ∷ 10 ∷ 10 ∷ 10 ∷ []
   -- p2 at least p1, here 1; and zeros of either sign are equal
   pub penalty-orders : map (λ p. refusal (matchOf 3 3 (pos 0) (pos 1) 3 one p)) besideOne ≡ 13 ∷ 0 ∷ 0 ∷ []

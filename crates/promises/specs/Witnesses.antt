@@ -87,7 +87,7 @@ sheetSays bytes = saidGiven (sizeSaid (readSheet bytes))
 pub record Reached : Type 0 where
   -- a match: 0, and the table's numbers in its order
   pub matches : map refusal calls ≡ 0 ∷ 1 ∷ 2 ∷ 3 ∷ 4 ∷ 5 ∷ 6 ∷ 7 ∷ 8 ∷ 9 ∷ 10 ∷ 13 ∷ 11 ∷ 12 ∷ []
-  -- 13 where 11 and 12 apply too, and 10 where 13 applies too: penalty p1 is 2, and infinite
+  -- 13 where 11 and 12 apply too, penalty p1 being 2; 10 where all three do, p1 being infinite
   pub match-13 : refusal (matchOf 5 15 5 15 (pos 0) (pos 2) 3 SemiGlobal two 14 119) ≡ 13
   pub match-10 : refusal (matchOf 5 15 5 15 (pos 0) (pos 2) 3 SemiGlobal (inf false) 14 119) ≡ 10
   -- the picture of one byte: a width 0, a byte too many, a coordinate that is a NaN, and a pixel outside

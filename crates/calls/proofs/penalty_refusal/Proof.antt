@@ -18,9 +18,9 @@ map c = c .before .before .enum-told .given .1
 paths : (c : tie.Then1) → usesPaths (c .before .before .before .before .args .call .mode) ≡ true
 paths c = sym (c .before .uses-paths .ensures) ∙ c .if1 .taken
 
--- the penalties in their range, where their order is asked
-p1-in : (c : tie.Else3) → isPenalty (c .before .before .before .before .before .before .before .before .args .call .p1) ≡ true
-p1-in c = sym (c .before .before .before .is-penalty .ensures) ∙ not-false _ (c .before .before .if2 .left)
+-- the penalties in their range
+p1-in : (c : tie.Else2) → isPenalty (c .before .before .before .before .before .before .args .call .p1) ≡ true
+p1-in c = sym (c .before .is-penalty .ensures) ∙ not-false _ (c .if2 .left)
 
 p2-in : (c : tie.Else3) → isPenalty (c .before .before .before .before .before .before .before .before .args .call .p2) ≡ true
 p2-in c = sym (c .before .is-penalty2 .ensures) ∙ not-false _ (c .if3 .left)
@@ -50,15 +50,26 @@ is-penalty-requires-2 c κs = search needs
 
 returns-3 : tie.Need-returns-3
 unfolding firstOf penaltyRows
-returns-3 c = let e = c .before .before .before .before in rw (map e, paths e, sym (c .before .before .before .is-penalty .ensures) ∙ not-false _ (c .before .before .if2 .left), sym (c .before .is-penalty2 .ensures) ∙ not-true _ (c .if3 .taken))
+returns-3 c =
+    let two = c .before .before in
+    let one = two .before .before in
+    rw (map one, paths one, p1-in two, sym (c .before .is-penalty2 .ensures) ∙ not-true _ (c .if3 .taken))
 
 returns-4 : tie.Need-returns-4
 unfolding firstOf penaltyRows
-returns-4 c = let e = c .before .before in let m = e .before .before .before .before in rw (map m, paths m, p1-in e, p2-in e, c .if4 .taken)
+returns-4 c =
+    let three = c .before .before in
+    let two = three .before .before in
+    let one = two .before .before in
+    rw (map one, paths one, p1-in two, p2-in three, c .if4 .taken)
 
 returns-5 : tie.Need-returns-5
 unfolding firstOf penaltyRows
-returns-5 c = let e = c .before .before in let m = e .before .before .before .before in rw (map m, paths m, p1-in e, p2-in e, c .if4 .left)
+returns-5 c =
+    let three = c .before .before in
+    let two = three .before .before in
+    let one = two .before .before in
+    rw (map one, paths one, p1-in two, p2-in three, c .if4 .left)
 
 returns-6 : tie.Need-returns-6
 unfolding firstOf penaltyRows
