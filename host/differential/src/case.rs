@@ -105,7 +105,11 @@ fn penalties(rng: &mut Rng) -> (f32, f32) {
 /// Penalties the wrong way round, as far apart as any two or as close as two numbers can be.
 fn reversed(rng: &mut Rng) -> (f32, f32) {
     let (p1, p2) = penalties(rng);
-    if p1 < p2 && !rng.one_in(4) { (p2, p1) } else { (p2.max(1e-45), p2.max(1e-45).next_down()) }
+    if p1 < p2 && !rng.one_in(4) {
+        return (p2, p1);
+    }
+    let above_zero = p2.max(f32::from_bits(1));
+    (above_zero, above_zero.next_down())
 }
 
 pub fn options(rng: &mut Rng, blocks: &[usize], count_most: i64) -> Options {

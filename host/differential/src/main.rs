@@ -13,6 +13,7 @@ mod shrink;
 use case::Case;
 use plombrisa::Options;
 use runs::limits::{BLOCK_MOST, COUNT_MOST};
+use runs::program::words_or;
 use runs::rng::Rng;
 use std::fmt::Debug;
 use std::process::exit;
@@ -142,9 +143,8 @@ fn textured(run: &mut Run, rng: &mut Rng, until: Instant) {
 }
 
 fn main() {
-    let words: Vec<u64> = std::env::args().skip(1).map(|w| w.parse().expect("SEED, SECONDS and LEAST are whole numbers")).collect();
-    let word = |place: usize, missing: u64| words.get(place).copied().unwrap_or(missing);
-    let (seed, seconds, least) = (word(0, 1), word(1, 30), word(2, 0) as usize);
+    let [seed, seconds, least] = words_or([1, 30, 0]);
+    let least = least as usize;
     println!("seed {seed}, {seconds} seconds");
     let start = Instant::now();
     let share = |part: u64| start + Duration::from_millis(seconds * 10 * part);

@@ -31,7 +31,8 @@ impl Rng {
 
 /// Two penalties, the second not below the first: otherwise the library refuses what the Rust answers.
 fn penalties(rng: &mut Rng) -> (f32, f32) {
-    rng.pick(&[(0.1, 1.5), (0.1, 1.5), (0.1, PENALTY_MOST), (0.0, 0.05), (-0.0, 0.0), (0.0, -0.0), (2.5, 2.5), (PENALTY_MOST, PENALTY_MOST)])
+    let most = PENALTY_MOST;
+    rng.pick(&[(0.1, 1.5), (0.1, 1.5), (0.1, most), (0.0, 0.05), (-0.0, 0.0), (0.0, -0.0), (2.5, 2.5), (most, most)])
 }
 
 fn options(rng: &mut Rng, block: usize) -> BlockMatchOptions {
