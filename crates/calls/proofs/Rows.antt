@@ -1,14 +1,15 @@
 -- What it means that no row applies. Assumes nothing.
-use Prim.Native.Nat.{ℕ, _+_, _*_, _/_, _%_, _≤_, _<_}
+use Prim.Native.Nat.{ℕ, _+_, _*_, _≤_}
 use mathlib.Core.Path.{_≡_, sym, ap₂, _∙_}
 use mathlib.Core.List.{List, _++_}
 use native.Mathlib.Nat.{mul-le-mul}
 use native.Mathlib.Omega.{arith}
-use borrow.Author.Tests.{ltb-false, eqb-true, eqb-false, not-false}
+use borrow.Author.Tests.{ltb-false, eqb-true, not-false}
 use lib.Dec.{eqb, ltb, lit<}
 use lib.IntN.{natAbs}
 use Rattle.lists.proofs.Tests.{and-both, or-false}
 use Rattle.options.specs.Limits.{sideMost, blockMost, countMost}
+use Rattle.options.proofs.Frames.{leaves}
 use Rattle.calls.specs.declared.Call.{Call}
 use Rattle.refusals.specs.Answered.{Row, firstOf, Numbered}
 use Rattle.refusals.proofs.Groups.{by-first, by-rest, by-second, none-of-both, both-numbered, passed}
@@ -107,9 +108,6 @@ module _ (q : Call) where
       let one = none-of-both (pairRows q) (penaltyRows q) (pair-numbered q) (two .0) in
       record { pair = one .0; penalty = one .1; output = two .1; rooms = three .1 }
 
-half : (block : ℕ) → (block % 2 ≡ 0 → ⊥) → 2 * (block / 2) < block
-half block odd = omega arith
-
 -- rows 1 to 9 do not apply
 pub sizes : (q : Call) → firstOf (pairRows q) ≡ 0 → Sizes q
 unfolding firstOf pictureRows searchRows
@@ -127,9 +125,8 @@ sizes q none =
     let range = ranged (q .«left_w») (q .«left_h») (and-both (inRange (q .«left_w») (q .«left_h»)) (inRange (q .«right_w») (q .«right_h»)) (not-false _ (one .0)) .0) in
     let bytes = and-both (eqb (q .«left_bytes») (q .«left_w» * q .«left_h»)) (eqb (q .«right_bytes») (q .«right_w» * q .«right_h»)) (not-false _ (two .0)) in
     let same = and-both (eqb (q .«left_w») (q .«right_w»)) (eqb (q .«left_h») (q .«right_h»)) (not-false _ (three .0)) in
-    let odd = half (q .block) (eqb-false (q .block % 2) 0 (four .0)) in
     let count = positive (q .count) (six .0) in
-    let sides = or-false (ltb (q .«left_w») (q .block)) (ltb (q .«left_h») (q .block)) (eight .0) in
+    let frame = leaves (q .«left_w») (q .«left_h») (q .block) (four .0) (eight .0) in
     record {
       w-least = range .w-least;
       w-most = range .w-most;
@@ -138,8 +135,8 @@ sizes q none =
       left-bytes = eqb-true _ _ (bytes .0);
       right-bytes = eqb-true _ _ (bytes .1) ∙ sym (ap₂ (λ w h. w * h) (eqb-true (q .«left_w») (q .«right_w») (same .0)) (eqb-true (q .«left_h») (q .«right_h») (same .1)));
       r-most = omega (arith, ltb-false blockMost (q .block) (five .0));
-      across = omega (arith, ltb-false (q .«left_w») (q .block) (sides .0));
-      down = omega (arith, ltb-false (q .«left_h») (q .block) (sides .1));
+      across = frame .across;
+      down = frame .down;
       whole = count .0;
       some = count .1;
       few = at-most countMost (q .count) (count .0) (seven .0);

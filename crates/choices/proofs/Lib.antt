@@ -17,3 +17,4 @@ pub mod MapRows
 pub mod Walking
 pub mod Largest
 pub mod Smallest
+pub mod Placed

@@ -16,7 +16,7 @@ use Rattle.maps.specs.declared.Range.{Range}
 use Rattle.maps.specs.declared.Range.the-variants as range
 use Rattle.maps.specs.declared.Extent.the-variants as extent
 use Rattle.maps.specs.Given.{gotGiven, validityGiven, numberGiven, extentGiven}
-use Rattle.maps.specs.Map.{sizeRows, pixelRows, gotAt, validAt, validCount, coverOf, rangeOf, extentOf, validRange}
+use Rattle.maps.specs.Map.{sizeRows, pixelRows, coverRows, gotAt, validAt, validCount, coverOf, rangeOf, extentOf, validRange}
 
 -- a range is no refusal
 span-given : (r : Range) → numberBack (extentGiven (extentOf r)) ≡ 0
@@ -46,12 +46,12 @@ module _ (w h : ℕ) (cells : List Float) where
   unfolding validCount
   valid-count-by-place = answers-by-place size-numbered (number-back numberGiven number.Refused _ (λ k. refl) refl _)
 
-  -- THEOREM: the cover figure, likewise
-  pub cover-by-place : ByPlace (sizeRows w h (length cells)) (numberBack (numberGiven (coverOf w h cells)))
-  unfolding coverOf
-  cover-by-place = answers-by-place size-numbered (number-back numberGiven number.Refused _ (λ k. refl) refl _)
-
   -- THEOREM: the least and the greatest valid number, likewise
   pub valid-range-by-place : ByPlace (sizeRows w h (length cells)) (numberBack (extentGiven (validRange w h cells)))
   unfolding validRange
   valid-range-by-place = answers-by-place size-numbered (number-back extentGiven extent.Refused _ (λ k. refl) (span-given (rangeOf cells)) _)
+
+  -- THEOREM: the cover figure by a block is refused by the place of its row, 23 before 4, 5 and 8
+  pub cover-by-place : (block : ℕ) → ByPlace (coverRows w h (length cells) block) (numberBack (numberGiven (coverOf w h cells block)))
+  unfolding coverOf
+  cover-by-place block = answers-by-place (lit< tt, (lit< tt, (lit< tt, (lit< tt, tt)))) (number-back numberGiven number.Refused _ (λ k. refl) refl _)

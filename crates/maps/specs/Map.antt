@@ -1,12 +1,14 @@
 -- What a map's functions answer, each from the list of the map's cells. Definitions only.
-use Prim.Native.Nat.{ℕ, _+_, _*_, _/_}
+use Prim.Native.Nat.{ℕ, _+_, _-_, _*_, _/_}
 use mathlib.Core.Bool.{Bool, not, _&&_, cond}
 use mathlib.Core.List.{List, [], _∷_, _++_}
 use lib.ListN.{length, getD}
 use lib.Dec.{ltb, eqb}
 use lib.Ieee.{Float, nan, lt}
 use lib.Ieee.Scale.{finite}
-use Rattle.options.specs.Limits.{isSide}
+use Rattle.lists.specs.Sums.{countBelow}
+use Rattle.options.specs.Limits.{isSide, blockEven, blockLarge, tooSmall}
+use Rattle.options.specs.Frame.{inner}
 use Rattle.refusals.specs.Answered.{Row, row, firstOf}
 use Rattle.refusals.specs.Outcome.{answerFor}
 use Rattle.maps.specs.declared.Got.{Got}
@@ -37,6 +39,10 @@ sizeRows w h n = row 23 (not (goodSize w h n)) ∷ []
 abbrev pub pixelRows : ℕ → ℕ → ℕ → ℕ → ℕ → List Row
 pixelRows w h n x y = sizeRows w h n ++ (row 26 (not (inside w h x y)) ∷ [])
 
+-- of its cover by a block: after 23, as for matching, 4 block side zero or even; 5 odd block side over 31; 8 map narrower or lower than the block
+abbrev pub coverRows : ℕ → ℕ → ℕ → ℕ → List Row
+coverRows w h n block = sizeRows w h n ++ (row 4 (blockEven block) ∷ row 5 (blockLarge block) ∷ row 8 (tooSmall w h block) ∷ [])
+
 -- the number in the buffer of the pixel (x, y)
 abbrev pub pixel : ℕ → List Float → ℕ → ℕ → Float
 pixel w cells x y = getD cells (y * w + x) nan
@@ -58,9 +64,21 @@ valids (c ∷ cs) = cond (finite c) 1 0 + valids cs
 unfoldable pub validCount : ℕ → ℕ → List Float → Number
 validCount w h cells = answerFor (firstOf (sizeRows w h (length cells))) number.Refused (number.Is (valids cells))
 
--- 1000 · valid / (w · h), rounded down
-unfoldable pub coverOf : ℕ → ℕ → List Float → Number
-coverOf w h cells = answerFor (firstOf (sizeRows w h (length cells))) number.Refused (number.Is (1000 * valids cells / (w * h)))
+-- how many cells of the inner frame are valid
+unfoldable pub innerValids : ℕ → ℕ → ℕ → List Float → ℕ
+innerValids w h r cells = countBelow (w * h) (λ p. inner w h r p && finite (getD cells p nan))
+
+-- the cells of the inner frame, valid or not: (w-2r)(h-2r)
+abbrev pub innerArea : ℕ → ℕ → ℕ → ℕ
+innerArea w h r = (w - 2 * r) * (h - 2 * r)
+
+-- 1000 times the valid cells of the inner frame, divided by its cells, rounded down
+abbrev pub permille : ℕ → ℕ → ℕ → List Float → ℕ
+permille w h r cells = 1000 * innerValids w h r cells / innerArea w h r
+
+-- THE COVER FIGURE by a block, whose r is half its side, rounded down
+unfoldable pub coverOf : ℕ → ℕ → List Float → ℕ → Number
+coverOf w h cells block = answerFor (firstOf (coverRows w h (length cells) block)) number.Refused (number.Is (permille w h (block / 2) cells))
 
 -- the lesser and the greater of a further number and what there was: an equal one leaves the earlier
 unfoldable pub lesserOf : Float → Float → Float

@@ -1,13 +1,18 @@
 // A disparity map over cells that the caller owns: one cell, whether it is valid, how many are, the least and the greatest, and the
 // cover figure. The covered functions take the sizes and the slice; `MapView` holds them together, and its functions take it apart.
 use numbers::plain::is_finite;
+use options::is_block_even;
+use options::is_block_large;
 use options::is_side;
+use options::is_too_small;
 ghost use mathlib.Core.Path.{_≡_};
 ghost use mathlib.Core.Bool.{cond};
 ghost use lib.Ieee.Scale.{finite};
+ghost use lib.ListN.{length};
 ghost use Rattle.refusals.specs.Answered.{firstOf};
 ghost use Rattle.maps.specs.Cells.{inBuffer, cellOf};
-ghost use Rattle.maps.specs.Map.{goodSize, sizeRows, pixelRows, gotAt, validAt, valids, validCount, coverOf, lesserOf, greaterOf, rangeOf, validRange};
+ghost use Rattle.maps.specs.Inner.{Framed};
+ghost use Rattle.maps.specs.Map.{goodSize, sizeRows, pixelRows, coverRows, gotAt, validAt, valids, validCount, innerValids, coverOf, lesserOf, greaterOf, rangeOf, validRange};
 
 // One cell of a map: the mark of a cell that has no number, or a number.
 pub enum Cell {
@@ -106,6 +111,26 @@ pub fn pixel_refusal(width: usize, height: usize, length: usize, x: usize, y: us
     0
 }
 
+// What a question about a map's cover is refused with, 0 for none.
+fn cover_refusal(width: usize, height: usize, length: usize, block: usize) -> u8
+    ensures { λ n. ⌜ n ≡ firstOf (coverRows width height length block) ⌝ }
+{
+    let refused = size_refusal(width, height, length);
+    if refused != 0 {
+        return refused;
+    }
+    if is_block_even(block) {
+        return 4;
+    }
+    if is_block_large(block) {
+        return 5;
+    }
+    if is_too_small(width, height, block) {
+        return 8;
+    }
+    0
+}
+
 // The cell of a pixel.
 pub fn cell_at(width: usize, height: usize, cells: &[f32], x: usize, y: usize) -> Got
     ensures { λ r. ⌜ r ≡ gotAt width height (now (cells .entry)) x y ⌝ }
@@ -159,16 +184,32 @@ pub fn valids_in(cells: &[f32]) -> usize
     n
 }
 
-// The cover figure: valid cells to a thousand, rounded down.
-pub fn cover(width: usize, height: usize, cells: &[f32]) -> Number
-    ensures { λ r. ⌜ r ≡ coverOf width height (now (cells .entry)) ⌝ }
+// How many cells of the inner frame are valid: of each of its rows the part that lies within.
+fn inner_valids(width: usize, height: usize, r: usize, cells: &[f32]) -> usize
+    requires { ⌜ Framed width height r (length (now cells)) ⌝ }
+    ensures { λ n. ⌜ n ≡ innerValids width height r (now (cells .entry)) ⌝ }
 {
-    let refused = size_refusal(width, height, cells.len());
+    let mut n: usize = 0;
+    let mut y = r;
+    while y < height - r {
+        let row = y * width;
+        n += valids_in(&cells[row + r..row + (width - r)]);
+        y += 1;
+    }
+    n
+}
+
+// The cover figure by a block: valid cells of the inner frame to a thousand, rounded down.
+pub fn cover(width: usize, height: usize, cells: &[f32], block: usize) -> Number
+    ensures { λ r. ⌜ r ≡ coverOf width height (now (cells .entry)) block ⌝ }
+{
+    let refused = cover_refusal(width, height, cells.len(), block);
     if refused != 0 {
         return Number::Refused(refused);
     }
-    let n = valids_in(cells);
-    Number::Is(1000 * n / (width * height))
+    let r = block / 2;
+    let n = inner_valids(width, height, r, cells);
+    Number::Is(1000 * n / ((width - 2 * r) * (height - 2 * r)))
 }
 
 // The lesser of a further number and the least: an equal one leaves the least.

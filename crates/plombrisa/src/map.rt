@@ -34,17 +34,18 @@ pub extern "C" fn plombrisa_valid_count(
     tell(count_valid(width, height, cells), count)
 }
 
-// The cover figure: valid cells to a thousand, rounded down.
+// The cover figure by a block: valid cells of the inner frame to a thousand, rounded down.
 #[no_mangle]
 pub extern "C" fn plombrisa_cover(
     cells: &[f32],
     width: usize,
     height: usize,
+    block_size: usize,
     permille: &mut u64,
 ) -> u32
-    ensures { λ n. ⌜ HostTold n (numberGiven (coverOf width height (now (cells .entry)))) (now (permille .entry)) (now (permille .exit)) ⌝ }
+    ensures { λ n. ⌜ HostTold n (numberGiven (coverOf width height (now (cells .entry)) «block_size»)) (now (permille .entry)) (now (permille .exit)) ⌝ }
 {
-    tell(cover(width, height, cells), permille)
+    tell(cover(width, height, cells, block_size), permille)
 }
 
 // The least and the greatest valid number. `some` is 1 where there are, and 0 where no cell is valid: then the two are as they were.

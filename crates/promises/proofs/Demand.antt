@@ -25,14 +25,10 @@ use Rattle.promises.specs.Changes.{Misses, Inside, NoRows, OneLevel, Cha
 use Rattle.promises.specs.Demand.{BlockMode, Kept}
 use Rattle.promises.proofs.Pairs.{sizes, raw-same, volumes-same}
 use Rattle.promises.proofs.Blank.{raw-blank}
-use Rattle.matching.proofs.SideMaps.{side-length, side-at}
+use Rattle.matching.proofs.SideMaps.{sideOf, side-length, side-at}
 use Rattle.promises.proofs.Maps.{cell-same, cell-blank}
 use Rattle.promises.proofs.Rows.{row-same, row-of}
 use Rattle.promises.proofs.Agreeing.{tested-length, mark-stays, tested-rows}
-
--- the map made from one side of a pair
-abbrev sideOf : ℕ → ℕ → BlockMatchOptions → Side → List ℕ → List ℕ → List Float
-sideOf w h o side left right = sideMap w h o (volumeOf w h o side left right)
 
 -- ---- rows whose window rows miss p to q
 module _ {w h : ℕ} {o : BlockMatchOptions} {p q : ℕ} {left right left′ right′ : List ℕ} (c : Changed w h o p q left right left′ right′) (b : BlockMode o) (y : ℕ) (m : Misses h p q (half o) y) where

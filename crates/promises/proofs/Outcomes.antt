@@ -136,8 +136,8 @@ pub valid-range : (w h : ℕ) (cells : List Float) (r r′ : Extent) → r ≡ v
 valid-range w h cells r r′ = same-given extentGiven
 
 -- the cover figure
-pub cover : (w h : ℕ) (cells : List Float) (r r′ : Number) → r ≡ coverOf w h cells → r′ ≡ coverOf w h cells → (r ≡ r′) × (numberGiven r ≡ numberGiven r′)
-cover w h cells r r′ = same-given numberGiven
+pub cover : (w h : ℕ) (cells : List Float) (block : ℕ) (r r′ : Number) → r ≡ coverOf w h cells block → r′ ≡ coverOf w h cells block → (r ≡ r′) × (numberGiven r ≡ numberGiven r′)
+cover w h cells block r r′ = same-given numberGiven
 
 -- one point, and the list of points: its answer and the list afterwards
 pub rectified-point : (k : Intrinsics) (x y d : Float) (r r′ : Point3) → r ≡ pointOf k x y d → r′ ≡ pointOf k x y d → (r ≡ r′) × (pointGiven r ≡ pointGiven r′)

@@ -4,6 +4,7 @@ use mathlib.Core.Path.{_≡_, refl}
 use mathlib.Core.Logic.{_↔_}
 use mathlib.Core.List.{[], _∷_, map}
 use lib.Ieee.{mul, div, sum, add, sub, neg, ofInt, round, size, climb, span, units, odd, lt, le, eq, isNan, ofBits, ofFields, toUnsigned, whole, toSigned}
+use Rattle.lists.specs.Sums.{sumTo, countBelow}
 use Rattle.calls.specs.declared.Call.{Call}
 use Rattle.refusals.specs.Answered.{firstOf, FirstIs, NoneApplies}
 use Rattle.refusals.proofs.Answering.{answered, answered-none}
@@ -11,7 +12,7 @@ use Rattle.calls.specs.Refusals.{pictureRows, searchRows, penaltyRows, outRows,
 use Rattle.calls.proofs.Rows.{table-numbered}
 use Rattle.pictures.specs.Picture.{pixelOf}
 use Rattle.pictures.specs.Bilinear.{clamped, placeOf, blended, valueAt, sampleOf}
-use Rattle.maps.specs.Map.{goodSize, inside, gotAt, validAt, valids, validCount, widen, widens, validRange, coverOf}
+use Rattle.maps.specs.Map.{goodSize, inside, gotAt, validAt, valids, validCount, widen, widens, validRange, innerValids, coverOf}
 use Rattle.points.specs.Point.{isPositive, pointOf, goodCamera, goodBaseline}
 use Rattle.points.specs.Records.{pointsIn, filledFor}
 use Rattle.sheets.specs.Number.{groups, numberBytes, takeGroups, takeNumber}
@@ -38,7 +39,7 @@ module _ (q : Call) where
 
 -- THEOREM: every number is answered for some call
 pub reached : Reached
-unfolding refusal table firstOf pictureRows searchRows penaltyRows outRows roomRows pixelOf sampleOf valueAt placeOf clamped blended gotAt validAt valids validCount widen widens validRange coverOf pointOf goodSize inside filledFor goodCamera goodBaseline pointsIn isPositive mul div sum add sub neg ofInt round size climb span units odd lt le eq isNan ofBits ofFields toUnsigned sheetOf kindSheet headBytes cellsBytes numberBytes groups kindOf codeOf sheetCell whole toSigned readSheet takeHead takeVersion takeSide takeCells takeCell takeNumber takeGroups
+unfolding refusal table firstOf pictureRows searchRows penaltyRows outRows roomRows pixelOf sampleOf valueAt placeOf clamped blended gotAt validAt valids validCount widen widens validRange innerValids countBelow sumTo coverOf pointOf goodSize inside filledFor goodCamera goodBaseline pointsIn isPositive mul div sum add sub neg ofInt round size climb span units odd lt le eq isNan ofBits ofFields toUnsigned sheetOf kindSheet headBytes cellsBytes numberBytes groups kindOf codeOf sheetCell whole toSigned readSheet takeHead takeVersion takeSide takeCells takeCell takeNumber takeGroups
 reached = record {
   matches = refl;
   match-13 = refl;
@@ -64,7 +65,14 @@ reached = record {
   valid-range-none = refl;
   valid-range-is = refl;
   cover-23 = refl;
+  cover-4 = refl;
+  cover-4-none = refl;
+  cover-5 = refl;
+  cover-8 = refl;
+  cover-8-low = refl;
   cover-is = refl;
+  cover-none = refl;
+  cover-all = refl;
   point-none = refl;
   point-is = refl;
   points-21 = refl;

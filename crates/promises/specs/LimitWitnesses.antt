@@ -21,7 +21,7 @@ use Rattle.pictures.specs.declared.Level.the-variants as level
 use Rattle.pictures.specs.Picture.{levelRows}
 use Rattle.pictures.specs.Given.{levelGiven}
 use Rattle.maps.specs.declared.Cell.the-variants.{Mark}
-use Rattle.maps.specs.Map.{goodSize, inside}
+use Rattle.maps.specs.Map.{goodSize, inside, coverRows}
 use Rattle.points.specs.declared.Intrinsics.{Intrinsics}
 use Rattle.points.specs.Records.{filledFor}
 use Rattle.points.specs.Given.{filledGiven}
@@ -198,6 +198,10 @@ pub record LimitsHeld : Type 0 where
   pub map-cells : map (λ n. goodSize 2048 2048 n) (4194303 ∷ 4194304 ∷ 4194305 ∷ []) ≡ false ∷ true ∷ false ∷ []
   pub last-column : map (λ x. inside 2048 1 x 0) (2047 ∷ 2048 ∷ []) ≡ true ∷ false ∷ []
   pub last-row : map (λ y. inside 1 2048 0 y) (2047 ∷ 2048 ∷ []) ≡ true ∷ false ∷ []
+  -- the cover of a map of 33 by 33 by a block of side 0, 1, 2, 31, 32 and 33; of maps of 30 to 32 columns, or rows, by one of 31
+  pub cover-blocks : map (λ block. firstOf (coverRows 33 33 1089 block)) (0 ∷ 1 ∷ 2 ∷ 31 ∷ 32 ∷ 33 ∷ []) ≡ 4 ∷ 0 ∷ 4 ∷ 0 ∷ 4 ∷ 5 ∷ []
+  pub cover-widths : map (λ w. firstOf (coverRows w 31 (w * 31) 31)) (30 ∷ 31 ∷ 32 ∷ []) ≡ 8 ∷ 0 ∷ 0 ∷ []
+  pub cover-heights : map (λ h. firstOf (coverRows 31 h (31 * h) 31)) (30 ∷ 31 ∷ 32 ∷ []) ≡ 8 ∷ 0 ∷ 0 ∷ []
   -- a row index: one record a row
   pub row-widths : map (λ w. freshRefusal w 2048 (w * 2048) 2048) (2048 ∷ 2049 ∷ []) ≡ 0 ∷ 23 ∷ []
   pub records : map (λ m. freshRefusal 2048 2048 4194304 m) (2047 ∷ 2048 ∷ 2049 ∷ []) ≡ 28 ∷ 0 ∷ 28 ∷ []

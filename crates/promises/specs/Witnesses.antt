@@ -71,6 +71,10 @@ calls =
     ∷ matchOf 5 15 5 15 (pos 0) (pos 2) 3 SemiGlobal one 15 119
     ∷ []
 
+-- a map of 3 by 3 cells: eight round one
+abbrev ringed : Float → Float → List Float
+ringed ring centre = ring ∷ ring ∷ ring ∷ ring ∷ centre ∷ ring ∷ ring ∷ ring ∷ ring ∷ []
+
 -- a camera with this fx and baseline; fy 1, cx and cy 0
 abbrev cameraOf : Float → Float → Intrinsics
 cameraOf fx baseline = record { fx = fx; fy = one; cx = plusZero; cy = plusZero; baseline = baseline }
@@ -112,8 +116,18 @@ pub record Reached : Type 0 where
   pub valid-range-23 : extentGiven (validRange 1 1 (one ∷ one ∷ [])) ≡ refused 23
   pub valid-range-none : extentGiven (validRange 1 1 (nan ∷ [])) ≡ is none
   pub valid-range-is : extentGiven (validRange 1 1 (one ∷ [])) ≡ is (some (record { least = one; greatest = one }))
-  pub cover-23 : numberGiven (coverOf 1 1 (one ∷ one ∷ [])) ≡ refused 23
-  pub cover-is : numberGiven (coverOf 2 1 (one ∷ nan ∷ [])) ≡ is 500
+  -- the cover: a cell too many, where 4, 5 and 8 apply too; a side of 34, where 5 and 8 do, and one of 0; of 33, where 8 does; a block of 3
+  -- by a map of one cell, and by one that is wide enough but too low
+  pub cover-23 : numberGiven (coverOf 1 1 (one ∷ one ∷ []) 34) ≡ refused 23
+  pub cover-4 : numberGiven (coverOf 1 1 (one ∷ []) 34) ≡ refused 4
+  pub cover-4-none : numberGiven (coverOf 1 1 (one ∷ []) 0) ≡ refused 4
+  pub cover-5 : numberGiven (coverOf 1 1 (one ∷ []) 33) ≡ refused 5
+  pub cover-8 : numberGiven (coverOf 1 1 (one ∷ []) 3) ≡ refused 8
+  pub cover-8-low : numberGiven (coverOf 3 1 (one ∷ one ∷ one ∷ []) 3) ≡ refused 8
+  -- two of three cells, rounded down; a frame of valid cells round a hole, and a valid cell in a frame of holes
+  pub cover-is : numberGiven (coverOf 3 1 (one ∷ one ∷ nan ∷ []) 1) ≡ is 666
+  pub cover-none : numberGiven (coverOf 3 3 (ringed one nan) 3) ≡ is 0
+  pub cover-all : numberGiven (coverOf 3 3 (ringed nan one) 3) ≡ is 1000
   -- the point of a disparity 0 and of 1 at (1, 1)
   pub point-none : pointGiven (pointOf (cameraOf one one) one one plusZero) ≡ none
   pub point-is : pointGiven (pointOf (cameraOf one one) one one one) ≡ some (record { x = one; y = one; z = one })

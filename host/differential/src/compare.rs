@@ -1,7 +1,7 @@
 //! One case on both sides: the proved library and the Rust.
 use crate::case::Case;
 use oracle::{dense, opened};
-use plombrisa::{Options, Picture, match_block_in, raw_volume_in};
+use plombrisa::{Map, Options, Picture, cover, match_block_in, raw_volume_in};
 
 /// What a lent cell holds before the call: numbers that neither side writes by itself.
 fn marked(n: usize) -> Vec<f32> {
@@ -102,7 +102,17 @@ pub fn check_match(case: &Case) -> Result<(), String> {
         return same_bits("output of a refused match", &out, &out_was);
     }
     let rust = dense::match_block(&gray(&case.left, case.left_size), &gray(&case.right, case.right_size), &rust_options(&case.options));
-    same_cells("map", &out, &rust.map_err(|e| format!("the Rust refused: {e:?}"))?.data)
+    same_cells("map", &out, &rust.map_err(|e| format!("the Rust refused: {e:?}"))?.data)?;
+    check_cover(case, &out)
+}
+
+/// The cover of a match's map by its own block: not refused, and 1000 of a semi-global map without the left-right test.
+fn check_cover(case: &Case, cells: &[f32]) -> Result<(), String> {
+    let (width, height) = case.left_size;
+    let map = Map { cells, width, height };
+    let permille = cover(map, case.options.block_size).map_err(|refusal| format!("cover of a map: refused with {}", refusal.number()))?;
+    let full = case.options.semi_global && !case.options.lr_consistency;
+    if permille > 1000 || (full && permille != 1000) { Err(format!("cover of a map: {permille}")) } else { Ok(()) }
 }
 
 /// The raw volume from one side: the answer, every cell, and the room.

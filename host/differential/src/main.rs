@@ -4,6 +4,7 @@
 //! where fewer than LEAST pairs were matched, for then it says little.
 mod case;
 mod compare;
+mod covers;
 mod maps;
 mod numbers;
 mod pictures;
@@ -125,6 +126,7 @@ fn others(run: &mut Run, rng: &mut Rng, until: Instant) {
         run.try_other("pixels", &reading, pictures::check_pixel);
         run.try_other("bilinear readings", &reading, pictures::check_bilinear);
         run.try_other("maps' figures", &maps::map(rng), maps::check);
+        run.try_other("maps' covers", &covers::covered(rng), covers::check);
         let formula = points::formula(rng);
         run.try_other(formula.kind(), &formula, points::check_formula);
         run.try_other("lists of points", &points::listing(rng), points::check_list);

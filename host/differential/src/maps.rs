@@ -1,7 +1,7 @@
-//! A map's figures on both sides: valid cells, cover, least and greatest.
+//! A map's figures on both sides: valid cells, least and greatest.
 use crate::numbers::{narrow, size, unfit_side};
 use oracle::dense::DisparityMap;
-use plombrisa::{Map, cover, cover_in, valid_count, valid_count_in, valid_range, valid_range_in};
+use plombrisa::{Map, valid_count, valid_count_in, valid_range, valid_range_in};
 use runs::limits::is_map;
 use runs::rng::Rng;
 
@@ -12,9 +12,13 @@ pub struct Cells {
     pub height: usize,
 }
 
+/// A cell that is not valid.
+pub fn blank(rng: &mut Rng) -> f32 {
+    rng.pick(&[f32::NAN, -f32::NAN, f32::from_bits(0x7F80_0001), f32::INFINITY, f32::NEG_INFINITY])
+}
+
 /// Cells by one of several recipes: none valid, zeros of both signs, one valid cell, numbers of every kind.
-fn cells(rng: &mut Rng, n: usize) -> Vec<f32> {
-    let blank = |rng: &mut Rng| rng.pick(&[f32::NAN, -f32::NAN, f32::from_bits(0x7F80_0001), f32::INFINITY, f32::NEG_INFINITY]);
+pub fn cells(rng: &mut Rng, n: usize) -> Vec<f32> {
     let recipe = rng.below(6);
     let mut all: Vec<f32> = (0..n)
         .map(|_| match recipe {
@@ -35,17 +39,22 @@ fn cells(rng: &mut Rng, n: usize) -> Vec<f32> {
 pub fn map(rng: &mut Rng) -> Cells {
     let (width, height) = size(rng);
     let mut case = Cells { cells: cells(rng, width * height), width, height };
-    match rng.below(32) {
-        0 => case.width = unfit_side(rng),
-        1 => case.height = unfit_side(rng),
-        2 => case.cells.push(1.0),
-        3 => drop(case.cells.pop()),
-        _ => {}
-    }
+    case.spoil(rng);
     case
 }
 
 impl Cells {
+    /// One in eight gets something wrong with it.
+    pub fn spoil(&mut self, rng: &mut Rng) {
+        match rng.below(32) {
+            0 => self.width = unfit_side(rng),
+            1 => self.height = unfit_side(rng),
+            2 => self.cells.push(1.0),
+            3 => drop(self.cells.pop()),
+            _ => {}
+        }
+    }
+
     pub fn lent(&self) -> Map<'_> {
         Map { cells: &self.cells, width: self.width, height: self.height }
     }
@@ -64,14 +73,14 @@ impl Cells {
     }
 }
 
-fn said<T>(what: &str, answer: Result<T, plombrisa::Refusal>, should: u32) -> Result<(), String> {
+pub fn said<T>(what: &str, answer: Result<T, plombrisa::Refusal>, should: u32) -> Result<(), String> {
     match answer.map_or_else(|r| r.number(), |_| 0) {
         number if number == should => Ok(()),
         number => Err(format!("{what}: answered {number}, document 01 has {should}")),
     }
 }
 
-fn equal<T: PartialEq + std::fmt::Debug>(what: &str, is: T, should: T) -> Result<(), String> {
+pub fn equal<T: PartialEq + std::fmt::Debug>(what: &str, is: T, should: T) -> Result<(), String> {
     if is == should { Ok(()) } else { Err(format!("{what}: {is:?}, not {should:?}")) }
 }
 
@@ -79,23 +88,20 @@ fn equal<T: PartialEq + std::fmt::Debug>(what: &str, is: T, should: T) -> Result
 pub fn check(case: &Cells) -> Result<u32, String> {
     let number = if case.good() { 0 } else { 23 };
     let was = 0xA5A5_0000_1111_2222;
-    let (mut count, mut permille) = (was, was);
+    let mut count = was;
     let (mut some, mut least, mut greatest) = (77u32, -7.5f32, -8.5f32);
     said("valid count", valid_count_in(case.lent(), &mut count), number)?;
-    said("cover", cover_in(case.lent(), &mut permille), number)?;
     said("range", valid_range_in(case.lent(), &mut some, &mut least, &mut greatest), number)?;
     let bits = (least.to_bits(), greatest.to_bits());
     let bits_was = ((-7.5f32).to_bits(), (-8.5f32).to_bits());
     if number != 0 {
-        equal("figures of a refused map", (count, permille, some), (was, was, 77))?;
+        equal("figures of a refused map", (count, some), (was, 77))?;
         equal("range of a refused map", bits, bits_was)?;
         return Ok(number);
     }
     let rust = DisparityMap::new(case.width, case.height, case.cells.clone());
     equal("valid count", count, rust.valid_count() as u64)?;
     equal("valid count", valid_count(case.lent()), Ok(count))?;
-    equal("cover", permille, 1000 * rust.valid_count() as u64 / (case.width * case.height) as u64)?;
-    equal("cover", cover(case.lent()), Ok(permille))?;
     let range = (some == 1).then_some((least, greatest));
     equal("range", range, rust.valid_range())?;
     equal("range", valid_range(case.lent()), Ok(range))?;

@@ -36,10 +36,12 @@ uint32_t plombrisa_pixel(
 uint32_t plombrisa_bilinear(
     const uint8_t *pic, size_t pic_len, size_t width, size_t height, double x, double y, double *value);
 
-/* A map's figures: how many cells are valid, that to a thousand cells, and the least and greatest valid number (some is 0, and
- * the two are left as they were, where no cell is valid). */
+/* A map's figures: how many cells are valid; how many of a thousand cells of the inner frame are, rounded down; and the least and
+ * greatest valid number (some is 0, and the two are left as they were, where no cell is valid). The inner frame holds the cells
+ * that lie block_size / 2 or more from every edge: nothing else of a map can hold a match. */
 uint32_t plombrisa_valid_count(const float *cells, size_t cells_len, size_t width, size_t height, uint64_t *count);
-uint32_t plombrisa_cover(const float *cells, size_t cells_len, size_t width, size_t height, uint64_t *permille);
+uint32_t plombrisa_cover(
+    const float *cells, size_t cells_len, size_t width, size_t height, size_t block_size, uint64_t *permille);
 uint32_t plombrisa_valid_range(
     const float *cells, size_t cells_len, size_t width, size_t height, uint32_t *some, float *least, float *greatest);
 

@@ -62,7 +62,7 @@ mod raw {
         ) -> u32;
 
         pub fn plombrisa_cover(
-            cells: *const f32, cells_len: usize, width: usize, height: usize, permille: *mut u64,
+            cells: *const f32, cells_len: usize, width: usize, height: usize, block_size: usize, permille: *mut u64,
         ) -> u32;
 
         pub fn plombrisa_valid_range(

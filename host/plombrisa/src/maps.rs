@@ -23,17 +23,17 @@ pub fn valid_count(map: Map) -> Result<u64, Refusal> {
     Ok(count)
 }
 
-/// The cover figure, valid cells to a thousand rounded down, into the caller's own.
-pub fn cover_in(map: Map, permille: &mut u64) -> Result<(), Refusal> {
+/// The cover figure by a block, into the caller's own.
+pub fn cover_in(map: Map, block_size: usize, permille: &mut u64) -> Result<(), Refusal> {
     let Map { cells, width, height } = map;
     // Safety: the pointer comes with the length of its slice, and the lent number is apart from it.
-    answer(unsafe { raw::plombrisa_cover(cells.as_ptr(), cells.len(), width, height, permille) })
+    answer(unsafe { raw::plombrisa_cover(cells.as_ptr(), cells.len(), width, height, block_size, permille) })
 }
 
-/// The cover figure: valid cells to a thousand, rounded down.
-pub fn cover(map: Map) -> Result<u64, Refusal> {
+/// The cover figure by a block: valid cells of the inner frame, which alone can hold a match, to a thousand, rounded down.
+pub fn cover(map: Map, block_size: usize) -> Result<u64, Refusal> {
     let mut permille = 0;
-    cover_in(map, &mut permille)?;
+    cover_in(map, block_size, &mut permille)?;
     Ok(permille)
 }
 

@@ -36,7 +36,8 @@ int main(void) {
     const float cells[4] = {NAN, 4, 2, NAN};
     uint64_t number = 0;
     if (plombrisa_valid_count(cells, 4, 2, 2, &number) != 0 || number != 2) return 4;
-    if (plombrisa_cover(cells, 4, 2, 2, &number) != 0 || number != 500) return 5;
+    if (plombrisa_cover(cells, 4, 2, 2, 1, &number) != 0 || number != 500) return 5;
+    if (plombrisa_cover(cells, 4, 2, 2, 3, &number) != 8 || number != 500) return 5;
     uint32_t some = 0;
     float least = 0, greatest = 0;
     if (plombrisa_valid_range(cells, 4, 2, 2, &some, &least, &greatest) != 0 || some != 1 || least != 2 || greatest != 4) return 6;

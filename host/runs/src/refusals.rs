@@ -1,6 +1,6 @@
-//! Document 01's table of refusals in plain Rust, written from its words: how a number is found in it, and the rows that every call on two
-//! pictures has. Nothing here calls the library.
-use crate::limits::{BLOCK_MOST, COUNT_MOST, FIRST_MOST, is_side};
+//! Document 01's table of refusals in plain Rust, written from its words: how a number is found in it, the rows that every call on two
+//! pictures has, and those of a map's cover. Nothing here calls the library.
+use crate::limits::{BLOCK_MOST, COUNT_MOST, FIRST_MOST, is_map, is_side};
 
 /// A row of a table: its number, and whether it applies.
 pub type Row = (u32, bool);
@@ -67,6 +67,17 @@ impl Pair {
     }
 }
 
+/// The number for the cover of a map of so many cells by a block: 23, then 4, 5 and 8 as for matching.
+pub fn cover_refusal(cells: usize, width: usize, height: usize, block: usize) -> u32 {
+    let rows = [
+        (23, !is_map(cells, width, height)),
+        (4, block.is_multiple_of(2)),
+        (5, block > BLOCK_MOST),
+        (8, width < block || height < block),
+    ];
+    first_of(&rows)
+}
+
 #[cfg(test)]
 mod tests {
     use super::*;
@@ -95,6 +106,18 @@ mod tests {
         assert_eq!((pair.refusal(), pair.left.refusal()), (2, 2));
         pair.left.height = SIDE_MOST + 1;
         assert_eq!((pair.refusal(), pair.left.refusal()), (1, 1));
+    }
+
+    #[test]
+    fn a_cover_s_rows_before_all_that_follow() {
+        assert_eq!(cover_refusal(2, 1, 1, BLOCK_MOST + 3), 23);
+        assert_eq!(cover_refusal(1, 1, 1, BLOCK_MOST + 3), 4);
+        assert_eq!(cover_refusal(1, 1, 1, 0), 4);
+        assert_eq!(cover_refusal(1, 1, 1, BLOCK_MOST + 2), 5);
+        assert_eq!(cover_refusal(2, 2, 1, 3), 8);
+        assert_eq!(cover_refusal(3, 1, 3, 3), 8);
+        assert_eq!(cover_refusal(9, 3, 3, 3), 0);
+        assert_eq!(cover_refusal(SIDE_MOST * BLOCK_MOST, SIDE_MOST, BLOCK_MOST, BLOCK_MOST), 0);
     }
 
     #[test]

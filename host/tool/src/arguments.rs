@@ -7,7 +7,8 @@ usage: tool match LEFT.pgm RIGHT.pgm MAP.pfm PREVIEW.png [OPTION..]
        tool volume LEFT.pgm RIGHT.pgm CAMERA SITE [OPTION..]
        tool check LEFT.pgm RIGHT.pgm MAP.pfm [OPTION..]
 
-match reads the two pictures, writes their disparity map and a preview of it, and prints the map's size and cover;
+match reads the two pictures, writes their disparity map and a preview of it, and prints the map's size and its cover, which is how many
+of 1000 cells that can hold a match do hold one;
 volume reads the two pictures and prints the volume of the heap over a rectangle of ground, how many points of the map lie in the
 rectangle and outside, and how many cells the ground has and how many of them no point fell into;
 check reads the two pictures and a vendor's whole-pixel map of them, in which a cell that is not finite is blank, and prints yes, or no

@@ -56,7 +56,7 @@ fn draw(asked: &Match) -> Result<String, String> {
     let owned = map_of(&asked.left, &asked.right, &asked.options)?;
     let map = owned.map();
     let file = write_pfm(map).map_err(|refusal| refused(&asked.map, refusal))?;
-    let permille = cover(map).map_err(|refusal| refused(&asked.map, refusal))?;
+    let permille = cover(map, asked.options.block_size).map_err(|refusal| refused(&asked.map, refusal))?;
     write_file(&asked.map, &file)?;
     write_file(&asked.preview, &preview(map, &asked.options))?;
     Ok(format!("size: {} by {}\ncover: {permille} of 1000", map.width, map.height))

@@ -66,7 +66,7 @@ fn on_the_example(name: &str, words: &[&str], options: Options) {
     let (width, height) = (scene.width, scene.height);
     let picture = |bytes| Picture { bytes, width, height };
     let cells = match_block(picture(&scene.left), picture(&scene.right), &options).expect("the pair is accepted");
-    let permille = cover(Map { cells: &cells, width, height }).expect("a map");
+    let permille = cover(Map { cells: &cells, width, height }, options.block_size).expect("a map");
     assert_eq!(ended.out, format!("size: 200 by 150\ncover: {permille} of 1000\n"), "{name}");
 
     let written = fs::read(map_file).expect("the map");
