@@ -18,7 +18,9 @@ mod volume;
 
 use memory::peak_of;
 use oracle::dense;
-use plombrisa::{Map, Options, Picture, float_cells, match_block, match_block_in, raw_volume_in, whole_cells};
+use plombrisa::{
+    Map, Options, Picture, cover, float_cells, match_block, match_block_in, raw_volume_in, valid_count, whole_cells,
+};
 use std::hint::black_box;
 use std::time::Instant;
 
@@ -117,7 +119,7 @@ fn growth(repeats: usize) {
     }
 }
 
-/// The library's raw volume, the maps without and with the left-right test, in both modes.
+/// The library's raw volume, the maps without and with the left-right test, in both modes, and the figures of the last.
 fn parts(repeats: usize) {
     let (w, h, count) = (640, 480, 64);
     let pair = pair(w, h);
@@ -141,6 +143,11 @@ fn parts(repeats: usize) {
             println!("| {mode} map, left-right {} | {seconds:.3} |", if lr_consistency { "on" } else { "off" });
         }
     }
+    let map = Map { cells: &out, width: w, height: h };
+    let count = best_of(repeats, || _ = black_box(valid_count(map).expect("a map")));
+    let figure = best_of(repeats, || _ = black_box(cover(map, plain.block_size).expect("a map")));
+    println!("| valid cells of that map | {count:.6} |");
+    println!("| cover of that map | {figure:.6} |");
 }
 
 /// A pair of 640x480 and the cells of its block map.
