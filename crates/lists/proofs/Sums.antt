@@ -99,15 +99,15 @@ module _ (p q : ℕ → Bool) where
       same false t h = refl
 
   -- and only there
-  pub all-counted : (n : ℕ) → countBelow n (λ k. p k && q k) ≡ countBelow n p → (k : ℕ) → k < n → p k ≡ true → q k ≡ true
+  pub all-by-count : (n : ℕ) → countBelow n (λ k. p k && q k) ≡ countBelow n p → (k : ℕ) → k < n → p k ≡ true → q k ≡ true
   unfolding countBelow sumTo
-  all-counted zero e k l h = absurd (omega arith)
-  all-counted (suc n) e k l h =
+  all-by-count zero e k l h = absurd (omega arith)
+  all-by-count (suc n) e k l h =
       let before = count-both n in
       let last = one-of-both (p n) (q n) in
       last-or k n l
       (λ (at : k ≡ n). rw at (both (p n) (q n) (omega arith) (rw at at h)))
-      (λ (under : k < n). all-counted n (omega arith) k under h)
+      (λ (under : k < n). all-by-count n (omega arith) k under h)
     where
       both : (s t : Bool) → adds (s && t) ≡ adds s → s ≡ true → t ≡ true
       both s true e h = refl

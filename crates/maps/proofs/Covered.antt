@@ -14,7 +14,7 @@ use lib.Ieee.{Float, nan}
 use lib.Ieee.Scale.{finite}
 use Rattle.lists.specs.Sums.{sumTo, countBelow}
 use Rattle.lists.proofs.Rows.{mul-pos-left, row-below}
-use Rattle.lists.proofs.Sums.{sumTo-same, count-both, count-all, all-counted}
+use Rattle.lists.proofs.Sums.{sumTo-same, count-both, count-all, all-by-count}
 use Rattle.options.specs.Limits.{sideMost}
 use Rattle.options.specs.Frame.{inner}
 use Rattle.options.proofs.Frames.{leaves, says-within}
@@ -103,7 +103,7 @@ module _ (w h : ℕ) (cells : List Float) (block : ℕ) where
       pixels = inner-pixels w h (block / 2) (f .across) (f .down)
 
       full : coverOf w h cells block ≡ number.Is 1000 → Full
-      full e = all-counted (inner w h (block / 2)) valid (w * h) (thousand-all _ _ (area-some f) (valids-few f cells) (sym (figure-is 1000 e .1)) ∙ sym pixels)
+      full e = all-by-count (inner w h (block / 2)) valid (w * h) (thousand-all _ _ (area-some f) (valids-few f cells) (sym (figure-is 1000 e .1)) ∙ sym pixels)
 
       thousand : Full → coverOf w h cells block ≡ number.Is 1000
       thousand all =

@@ -48,7 +48,7 @@ in-turn false false t = refl
 
 module _ (w h r : ℕ) (across : 2 * r < w) (down : 2 * r < h) where
   -- the pixels of the inner frame that pass a test, row by row
-  pub count-inner : (t : ℕ → Bool) → countBelow (w * h) (λ p. inner w h r p && t p) ≡ sumTo (h - 2 * r) (λ j. sumTo (w - 2 * r) (λ i. cond (t ((r + j) * w + (r + i))) 1 0))
+  count-inner : (t : ℕ → Bool) → countBelow (w * h) (λ p. inner w h r p && t p) ≡ sumTo (h - 2 * r) (λ j. sumTo (w - 2 * r) (λ i. cond (t ((r + j) * w + (r + i))) 1 0))
   unfolding countBelow
   count-inner t =
       ap (λ n. sumTo n (λ p. cond (inner w h r p && t p) 1 0)) (mul-comm w h)
@@ -103,19 +103,19 @@ module _ {w h r : ℕ} (cells : List Float) (f : Framed w h r (length cells)) wh
   all-parts = sumTo-same (h - 2 * r) _ _ (λ j l. part-valids (r + j) (omega arith)) ∙ sym (count-inner w h r (f .across) (f .down) (λ p. finite (getD cells p nan)))
 
 -- what a loop over the rows of the inner frame has counted before row y
-pub record Counted (w h r : ℕ) (cells : List Float) (n y : ℕ) : Type 0 where
+pub record CountedRows (w h r : ℕ) (cells : List Float) (n y : ℕ) : Type 0 where
   pub low : r ≤ y
   pub high : y ≤ h - r
   pub so-far : n ≡ sumTo (y - r) (λ j. valids (partOf w r cells (r + j)))
 
 module _ {w h r : ℕ} (cells : List Float) (f : Framed w h r (length cells)) where
   -- before the first of them
-  pub counted-none : Counted w h r cells 0 r
+  pub counted-none : CountedRows w h r cells 0 r
   unfolding sumTo
   counted-none = record { low = omega arith; high = omega (arith, f .down); so-far = rw sub-self }
 
   -- one row more
-  pub counted-more : (n y : ℕ) → Counted w h r cells n y → y < h - r → Counted w h r cells (n + valids (partOf w r cells y)) (y + 1)
+  pub counted-more : (n y : ℕ) → CountedRows w h r cells n y → y < h - r → CountedRows w h r cells (n + valids (partOf w r cells y)) (y + 1)
   unfolding sumTo
   counted-more n y c l =
       let next : y + 1 - r ≡ suc (y - r) = omega (arith, c .low) in
@@ -123,13 +123,13 @@ module _ {w h r : ℕ} (cells : List Float) (f : Framed w h r (length cells)) wh
       record { low = omega (arith, c .low); high = omega arith; so-far = rw (next, this) (ap (λ m. m + valids (partOf w r cells y)) (c .so-far)) }
 
   -- after the last
-  pub counted-all : (n y : ℕ) → Counted w h r cells n y → h - r ≤ y → n ≡ innerValids w h r cells
+  pub counted-all : (n y : ℕ) → CountedRows w h r cells n y → h - r ≤ y → n ≡ innerValids w h r cells
   counted-all n y c past =
       let rows : y - r ≡ h - 2 * r = omega (arith, c .high) in
       c .so-far ∙ rw rows (all-parts cells f)
 
   -- never more than the map's cells
-  pub counted-few : (n y : ℕ) → Counted w h r cells n y → n ≤ w * h
+  pub counted-few : (n y : ℕ) → CountedRows w h r cells n y → n ≤ w * h
   counted-few n y c =
       let row : (j : ℕ) → j < y - r → valids (partOf w r cells (r + j)) ≤ w =
       λ j l. omega (arith, valids-most (partOf w r cells (r + j)), part-long cells f (r + j) (omega (arith, c .high))) in

@@ -24,18 +24,18 @@ abbrev pub cellFrom : ℕ → ℕ → BlockMatchOptions → List Float → ℕ �
 cellFrom w h o v p = inBuffer (blockCell w h (half o) (searchOf o) (gatesOf o) v p)
 
 -- and in each mode
-abbrev pub cellIn : Mode → ℕ → ℕ → BlockMatchOptions → List Float → ℕ → Float
-cellIn Block w h o v p = cellFrom w h o v p
-cellIn SemiGlobal w h o v p = inBuffer (semiCell w h (half o) (searchOf o) (sumsFrom w h o v) p)
+abbrev pub cellBy : Mode → ℕ → ℕ → BlockMatchOptions → List Float → ℕ → Float
+cellBy Block w h o v p = cellFrom w h o v p
+cellBy SemiGlobal w h o v p = inBuffer (semiCell w h (half o) (searchOf o) (sumsFrom w h o v) p)
 
 chosen-is : (mode : Mode) (w h : ℕ) (o : BlockMatchOptions) (v : List Float)
-    → map inBuffer (chosenIn mode w h o v) ≡ listOf (w * h) (cellIn mode w h o v)
+    → map inBuffer (chosenIn mode w h o v) ≡ listOf (w * h) (cellBy mode w h o v)
 unfolding blockMap semiMap
 chosen-is Block w h o v = map-listOf inBuffer (w * h) (blockCell w h (half o) (searchOf o) (gatesOf o) v)
 chosen-is SemiGlobal w h o v = map-listOf inBuffer (w * h) (semiCell w h (half o) (searchOf o) (sumsFrom w h o v))
 
 module _ (w h : ℕ) (o : BlockMatchOptions) {mode : Mode} (b : o .mode ≡ mode) (v : List Float) where
-  side-is : sideMap w h o v ≡ listOf (w * h) (cellIn mode w h o v)
+  side-is : sideMap w h o v ≡ listOf (w * h) (cellBy mode w h o v)
   side-is = ap (λ mode. map inBuffer (chosenIn mode w h o v)) b ∙ chosen-is mode w h o v
 
   -- it has a cell for each pixel
@@ -43,5 +43,5 @@ module _ (w h : ℕ) (o : BlockMatchOptions) {mode : Mode} (b : o .mode ≡ mode
   side-length = ap length side-is ∙ listOf-length (w * h) _
 
   -- and that of pixel p is the one chosen there
-  pub side-at : (p : ℕ) → p < w * h → getD (sideMap w h o v) p nan ≡ cellIn mode w h o v p
+  pub side-at : (p : ℕ) → p < w * h → getD (sideMap w h o v) p nan ≡ cellBy mode w h o v p
   side-at p l = ap (λ m. getD m p nan) side-is ∙ listOf-at (w * h) _ p nan l

@@ -6,12 +6,12 @@ use borrow.Author.Needs.{needs}
 use lib.ListN.{length}
 use Rattle.options.specs.Limits.{sideMost}
 use Rattle.maps.proofs.Facts.{pixels-small}
-use Rattle.maps.proofs.Framed.{Counted, part-there, counted-none, counted-more, counted-all, counted-few}
+use Rattle.maps.proofs.Framed.{CountedRows, part-there, counted-none, counted-more, counted-all, counted-few}
 use Rattle.maps.proofs.inner_valids.Statement.{statement}
 use Rattle.maps.proofs.inner_valids.Tie as tie
 
 abbrev Inv-loop : tie.InvT-loop
-Inv-loop width height r cells n₀ y₀ n y = Counted width height r cells n y
+Inv-loop width height r cells n₀ y₀ n y = CountedRows width height r cells n y
 
 abbrev μ-loop : tie.MeasureT-loop
 μ-loop width height r cells n₀ y₀ n y = height - y
@@ -20,12 +20,12 @@ loop-holds : tie.Need-loop-holds Inv-loop μ-loop
 loop-holds c = counted-none (c .before .args .cells .now) (c .before .pre)
 
 -- the row at hand lies among the map's cells, and these are few
-record Row (w h r y n : ℕ) : Type 0 where
+record AtHand (w h r y n : ℕ) : Type 0 where
   across : 2 * r < w
   there : y * w + w ≤ n
   few : n ≤ sideMost * sideMost
 
-row-at-hand : (c : tie.In-loop Inv-loop μ-loop) → let a = c .before .before .before .args in Row (a .width) (a .height) (a .r) (c .before .loop .y) (length (a .cells .now))
+row-at-hand : (c : tie.In-loop Inv-loop μ-loop) → let a = c .before .before .before .args in AtHand (a .width) (a .height) (a .r) (c .before .loop .y) (length (a .cells .now))
 row-at-hand c =
     let a = c .before .before .before .args in
     let f = c .before .before .before .pre in
@@ -64,7 +64,7 @@ valids-in-requires c κs = search needs
 -- the row counted
 counted : (c : tie.After-valids-in Inv-loop μ-loop)
     → let a = c .before .before .before .before .before .args in
-    Counted (a .width) (a .height) (a .r) (a .cells .now) (c .before .before .before .loop .n + c .valids-in .result) (c .before .before .before .loop .y + 1)
+    CountedRows (a .width) (a .height) (a .r) (a .cells .now) (c .before .before .before .loop .n + c .valids-in .result) (c .before .before .before .loop .y + 1)
 counted c =
     let turn = c .before .before in
     let a = turn .before .before .before .args in
