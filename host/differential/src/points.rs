@@ -2,7 +2,7 @@
 use crate::maps::{Cells, map};
 use crate::numbers::{beside, same, wide};
 use oracle::rectification::{FxFyCxCy, StereoRectification};
-use plombrisa::{Intrinsics, PointRecord, points, points_in, rectified_point, rectified_point_in};
+use plombrisa::{Error, Intrinsics, PointRecord, points, points_in, rectified_point, rectified_point_in};
 use runs::limits::{COUNT_MOST, SIDE_MOST};
 use runs::rng::Rng;
 
@@ -152,8 +152,18 @@ pub fn check_list(case: &Listing) -> Result<u32, String> {
             return Err(format!("points: record {i} is {is:?}, not {should:?}"));
         }
     }
+    check_owned(case, &expected, if should == 24 { 0 } else { should })?;
+    Ok(number)
+}
+
+/// The list that the wrapper asks memory for: what is refused but for the list's length, and every record.
+fn check_owned(case: &Listing, expected: &[PointRecord], should: u32) -> Result<(), String> {
     match points(case.map.lent(), &case.k) {
-        Ok(all) if number == 0 && all.len() != written.len() => Err(format!("points: a list of {}", all.len())),
-        _ => Ok(number),
+        Err(Error::Refused(refusal)) if refusal.number() == should => Ok(()),
+        Ok(all) if should == 0 && all.len() == expected.len() && all.iter().zip(expected).all(|(is, other)| same_record(is, other)) => {
+            Ok(())
+        }
+        Ok(all) => Err(format!("points: a list of its own of {} records, document 01 has {should}", all.len())),
+        Err(why) => Err(format!("points: with a list of its own {why}, document 01 has {should}")),
     }
 }

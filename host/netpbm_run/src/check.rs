@@ -2,7 +2,7 @@
 use crate::files::Reading;
 use netpbm_run::format::{self, Size};
 use plombrisa::{
-    Map, Refusal, pfm_length_in, pfm_size_in, pgm_size_in, read_pfm, read_pfm_in, read_pgm, read_pgm_in, write_pfm, write_pfm_in,
+    Error, Map, Refusal, pfm_length_in, pfm_size_in, pgm_size_in, read_pfm, read_pfm_in, read_pgm, read_pgm_in, write_pfm, write_pfm_in,
 };
 use runs::maps::MadeMap;
 use runs::room::{Cell, Room};
@@ -20,8 +20,9 @@ pub struct Both {
     bytes_room: Room<u8>,
 }
 
-fn number_of<T>(answer: &Result<T, Refusal>) -> u32 {
-    answer.as_ref().map_or_else(|refusal| refusal.number(), |_| 0)
+/// The number of an answer, 0 where the call was accepted. A run's inputs are small, so memory is not what it may lack.
+fn number_of<T>(answer: &Result<T, impl Copy + Into<Error>>) -> u32 {
+    answer.as_ref().map_or_else(|&why| why.into().refusal().expect("memory").number(), |_| 0)
 }
 
 /// An answer and the numbers that were lent: the size's where it was accepted, else as they were.

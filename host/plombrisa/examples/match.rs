@@ -7,6 +7,6 @@ pub fn main() {
     let options = Options { num_disparities: 2, block_size: 3, ..Options::default() };
     match match_block(picture(&left), picture(&right), &options) {
         Ok(map) => println!("disparity at (2, 1): {}", map[1 * 5 + 2]),
-        Err(refusal) => println!("refused: {} ({refusal:?})", refusal.number()),
+        Err(error) => println!("{error}"),
     }
 }

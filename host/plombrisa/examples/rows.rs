@@ -1,6 +1,6 @@
-use plombrisa::{Map, Refusal, RowIndex};
+use plombrisa::{Error, Map, RowIndex};
 
-pub fn main() -> Result<(), Refusal> {
+pub fn main() -> Result<(), Error> {
     let mut cells = [4.0, f32::NAN, 0.5, 3.0, 2.0, 2.5];
     let mut index = RowIndex::fresh(Map { cells: &cells, width: 3, height: 2 })?;
     let print = |index: &RowIndex| println!("row 0: {:?}; {} cells are valid", index.rows()[0], index.valid_count());

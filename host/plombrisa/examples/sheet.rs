@@ -4,10 +4,10 @@ pub fn main() {
     let map = Map { cells: &[f32::NAN, 4.0, -1.0, 0.0], width: 2, height: 2 };
     match write_sheet(map, Kind::Whole) {
         Ok(bytes) => println!("{} bytes: {bytes:02X?}", bytes.len()),
-        Err(refusal) => println!("refused: {} ({refusal:?})", refusal.number()),
+        Err(error) => println!("{error}"),
     }
     match read_sheet(&[1, 0, 2, 2, 0, 9, 2, 1]) {
         Ok(sheet) => println!("{} by {}: {:?}", sheet.width, sheet.height, sheet.cells),
-        Err(refusal) => println!("refused: {} ({refusal:?})", refusal.number()),
+        Err(error) => println!("{error}"),
     }
 }

@@ -11,7 +11,7 @@ pub fn main() {
         match check_vendor(picture(&left), picture(&right), &options, Map { cells: &cells, width: 5, height: 3 }) {
             Ok(Verdict::Yes) => println!("disparity {disparity} at (3, 1): yes"),
             Ok(Verdict::No { x, y }) => println!("disparity {disparity} at (3, 1): no, the cell at ({x}, {y})"),
-            Err(refusal) => println!("refused: {} ({refusal:?})", refusal.number()),
+            Err(error) => println!("{error}"),
         }
     }
 }

@@ -6,6 +6,6 @@ pub fn main() {
     let site = Site { left: 0, right: 1000, top: 0, bottom: 500, cell: 500, floor: 3000 };
     match heap_volume(&points, &site) {
         Ok(heap) => println!("{} by {}: {:?}, {:?}", heap.columns, heap.rows, heap.heights, heap.figures),
-        Err(refusal) => println!("refused: {} ({refusal})", refusal.number()),
+        Err(error) => println!("{error}"),
     }
 }

@@ -1,7 +1,7 @@
 //! One map and the index beside it on both sides: the library's answers, every cell and every record, held to `index`.
 use crate::cases::{Edit, Made};
 use crate::lent::Lent;
-use plombrisa::{Map, Refusal, RowIndex, RowRecord, edit_cell_in, fresh_index_in, valid_count};
+use plombrisa::{Error, Map, RowIndex, RowRecord, edit_cell_in, fresh_index_in, valid_count};
 use rows_run::index::{self, Row};
 use runs::limits::SIDE_MOST;
 use runs::same::equal;
@@ -15,8 +15,9 @@ pub struct Both {
     should: Vec<f32>,
 }
 
-fn number_of<T>(answer: &Result<T, Refusal>) -> u32 {
-    answer.as_ref().map_or_else(|refusal| refusal.number(), |_| 0)
+/// The number of an answer, 0 where the call was accepted. A run's inputs are small, so memory is not what it may lack.
+fn number_of<T>(answer: &Result<T, impl Copy + Into<Error>>) -> u32 {
+    answer.as_ref().map_or_else(|&why| why.into().refusal().expect("memory").number(), |_| 0)
 }
 
 fn record_of(row: &Row) -> RowRecord {

@@ -2,7 +2,7 @@
 use crate::maps::Writing;
 use crate::sheets::Reading;
 use plombrisa::{
-    Kind, Map, Refusal, read_sheet, read_sheet_in, sheet_length_in, sheet_size_in, write_sheet, write_sheet_in,
+    Error, Kind, Map, read_sheet, read_sheet_in, sheet_length_in, sheet_size_in, write_sheet, write_sheet_in,
 };
 use runs::room::Room;
 use runs::same::{equal, same_bytes, same_cells};
@@ -19,8 +19,9 @@ pub struct Both {
     bytes_room: Room<u8>,
 }
 
-fn number_of<T>(answer: &Result<T, Refusal>) -> u32 {
-    answer.as_ref().map_or_else(|refusal| refusal.number(), |_| 0)
+/// The number of an answer, 0 where the call was accepted. A run's inputs are small, so memory is not what it may lack.
+fn number_of<T>(answer: &Result<T, impl Copy + Into<Error>>) -> u32 {
+    answer.as_ref().map_or_else(|&why| why.into().refusal().expect("memory").number(), |_| 0)
 }
 
 /// The numbers that a reading lends: the head's where it was accepted, else as they were.

@@ -1,6 +1,6 @@
 //! One map on both sides: the library's answer and all that it was lent, held to `judge`.
 use crate::cases::{Made, Must};
-use plombrisa::{Map, Picture, Refusal, Verdict, check_vendor, check_vendor_in, whole_cells};
+use plombrisa::{Error, Map, Picture, Verdict, check_vendor, check_vendor_in, whole_cells};
 use runs::held::Held;
 use runs::room::Room;
 use runs::same::equal;
@@ -34,8 +34,9 @@ pub const ANSWERS: [&str; 11] = [
     YES, YES_TIED, YES_LEAST, YES_MINUS_ZERO, YES_INFINITE, YES_NONE_VALID, NO_NOT_SEARCHED, NO_BLANK, NO_BELOW, NO_BEATEN, NO_MORE,
 ];
 
-fn number_of<T>(answer: &Result<T, Refusal>) -> u32 {
-    answer.as_ref().map_or_else(|refusal| refusal.number(), |_| 0)
+/// The number of an answer, 0 where the call was accepted. A run's inputs are small, so memory is not what it may lack.
+fn number_of<T>(answer: &Result<T, impl Copy + Into<Error>>) -> u32 {
+    answer.as_ref().map_or_else(|&why| why.into().refusal().expect("memory").number(), |_| 0)
 }
 
 fn verdict_of(judged: &Judged) -> Verdict {
@@ -117,7 +118,8 @@ impl Both {
         let left = picture(self.left.lent(), input.left.width, input.left.height);
         let right = picture(self.right.lent(), input.right.width, input.right.height);
         let map = Map { cells: self.map.lent(), width: input.map.width, height: input.map.height };
-        let is = check_vendor(left, right, &input.options, map).map_err(|refusal| refusal.number());
+        let answer = check_vendor(left, right, &input.options, map);
+        let is = answer.map_err(|_| number_of(&answer));
         let should = judge(&input.asked(), usize::MAX).map(|judged| verdict_of(&judged));
         equal("answer of the call that lends its own room", is, should)
     }

@@ -1,6 +1,6 @@
 //! One heap on both sides: the library's answer and every lent cell and number, held to `measure`.
 use crate::cases::Made;
-use plombrisa::{Figures, PointRecord, Refusal, Site, heap_shape_in, heap_volume, heap_volume_in};
+use plombrisa::{Error, Figures, PointRecord, Site, heap_shape_in, heap_volume, heap_volume_in};
 use runs::rng::Rng;
 use runs::room::Room;
 use runs::same::{equal, same_numbers};
@@ -28,8 +28,9 @@ fn figures_of(measured: &Measured) -> Figures {
     Figures { volume, inside, outside, empty }
 }
 
-fn number_of<T>(answer: &Result<T, Refusal>) -> u32 {
-    answer.as_ref().map_or_else(|refusal| refusal.number(), |_| 0)
+/// The number of an answer, 0 where the call was accepted. A run's inputs are small, so memory is not what it may lack.
+fn number_of<T>(answer: &Result<T, impl Copy + Into<Error>>) -> u32 {
+    answer.as_ref().map_or_else(|&why| why.into().refusal().expect("memory").number(), |_| 0)
 }
 
 /// The rounding of the plain Rust is that of whole numbers, worked out from the bits.

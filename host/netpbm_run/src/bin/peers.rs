@@ -7,7 +7,7 @@
 //! `peers longest-side` prints the longest side of a file.
 //!
 //! A file that is refused is printed as the word `refused` and the number.
-use plombrisa::{Map, OwnedMap, OwnedPicture, read_pfm, read_pgm, write_pfm};
+use plombrisa::{Error, Map, OwnedMap, OwnedPicture, read_pfm, read_pgm, write_pfm};
 use runs::limits::SIDE_MOST;
 use std::fs;
 
@@ -47,10 +47,18 @@ fn map_of_levels(file: &str) -> OwnedMap {
     OwnedMap { cells, width, height }
 }
 
+/// A refusal as a word and its number; a want of memory in its sentence, which no other program's words are.
+fn print_error(error: Error) {
+    match error {
+        Error::Refused(refusal) => println!("refused {}", refusal.number()),
+        Error::Memory { .. } => println!("{error}"),
+    }
+}
+
 fn write(map: Map, file: &str) {
     match write_pfm(map) {
         Ok(bytes) => fs::write(file, bytes).expect("the file can be written"),
-        Err(refusal) => println!("refused {}", refusal.number()),
+        Err(error) => print_error(error),
     }
 }
 
@@ -61,12 +69,12 @@ fn main() {
     match words.as_slice() {
         ["levels", files @ ..] => {
             for file in files {
-                read_pgm(&bytes(file)).map_or_else(|r| println!("refused {}", r.number()), |picture| print_picture(&picture));
+                read_pgm(&bytes(file)).map_or_else(print_error, |picture| print_picture(&picture));
             }
         }
         ["cells", files @ ..] => {
             for file in files {
-                read_pfm(&bytes(file)).map_or_else(|r| println!("refused {}", r.number()), |map| print_map(&map));
+                read_pfm(&bytes(file)).map_or_else(print_error, |map| print_map(&map));
             }
         }
         ["write", map, file] => write(map_of_bits(map).map(), file),
