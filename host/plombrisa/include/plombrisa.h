@@ -1,6 +1,8 @@
 /* The functions that the library exports. A slice is its pointer and then its length; its cells may not be shared with another
  * slice of the same call that is written. Every number that is answered is 0 or the number of a refusal, which leaves every
- * lent cell as it was. docs/STATEMENTS.md says where each statement is proved. */
+ * lent cell as it was. The library asks for no memory of its own: a room is scratch memory that the caller lends for the time of the
+ * call. What stands in a room before the call does not matter, and after it the caller may use it again or free it.
+ * docs/STATEMENTS.md of the repository says where each statement is proved. The text is C11 and C++17. */
 #ifndef PLOMBRISA_H
 #define PLOMBRISA_H
 
@@ -8,13 +10,91 @@
 #include <stddef.h>
 #include <stdint.h>
 
+/* The version of this header, for the preprocessor; plombrisa_version answers that of the library that is linked. */
+#define PLOMBRISA_VERSION_MAJOR 0
+#define PLOMBRISA_VERSION_MINOR 1
+#define PLOMBRISA_VERSION_PATCH 0
+#define PLOMBRISA_VERSION "0.1.0"
+
 #ifdef __cplusplus
 extern "C" {
 #endif
 
+/* Names for the numbers that are answered. The functions answer uint32_t and not this enum, whose size is the compiler's choice; a
+ * case of it can be compared with an answer as it is. plombrisa_reason has the sentence of each. */
+enum plombrisa_refusal {
+    PLOMBRISA_DONE = 0, /* not refused */
+
+    /* two pictures and how they are matched */
+    PLOMBRISA_SIZE_OUT_OF_RANGE = 1,
+    PLOMBRISA_BYTE_COUNT = 2,
+    PLOMBRISA_SIZES_DIFFER = 3,
+    PLOMBRISA_BLOCK_EVEN = 4,
+    PLOMBRISA_BLOCK_TOO_LARGE = 5,
+    PLOMBRISA_COUNT_NOT_POSITIVE = 6,
+    PLOMBRISA_COUNT_TOO_LARGE = 7,
+    PLOMBRISA_PICTURE_SMALLER_THAN_BLOCK = 8,
+    PLOMBRISA_FIRST_OUT_OF_RANGE = 9,
+    PLOMBRISA_PENALTY_OUT_OF_RANGE = 10,
+    PLOMBRISA_PENALTIES_REVERSED = 13,
+    PLOMBRISA_OUTPUT_LENGTH = 11,
+    PLOMBRISA_ROOM_TOO_SHORT = 12,
+
+    /* cameras, maps, points, single pixels and the index of rows */
+    PLOMBRISA_CAMERA_OUT_OF_RANGE = 21,
+    PLOMBRISA_BASELINE_OUT_OF_RANGE = 22,
+    PLOMBRISA_MAP_SIZE = 23,
+    PLOMBRISA_LIST_TOO_SHORT = 24,
+    PLOMBRISA_COORDINATE_NAN = 25,
+    PLOMBRISA_PIXEL_OUTSIDE = 26,
+    PLOMBRISA_INDEX_LENGTH = 28,
+
+    /* sheets */
+    PLOMBRISA_CELL_INFINITE = 31,
+    PLOMBRISA_CELL_NOT_WHOLE = 32,
+    PLOMBRISA_OUTPUT_TOO_SHORT = 33,
+    PLOMBRISA_NUMBER_UNFIT = 34,
+    PLOMBRISA_VERSION_OR_KIND_UNKNOWN = 35,
+    PLOMBRISA_SHEET_SIZE = 36,
+    PLOMBRISA_CELL_NUMBER = 37,
+    PLOMBRISA_BYTES_LEFT_OVER = 38,
+
+    /* PGM and PFM files */
+    PLOMBRISA_FILE_HEADER = 41,
+    PLOMBRISA_FILE_MAXIMUM = 42,
+    PLOMBRISA_FILE_SIZE = 43,
+    PLOMBRISA_FILE_DATA = 44,
+    PLOMBRISA_FILE_OUTPUT = 45,
+
+    /* a heap's volume */
+    PLOMBRISA_CELL_SIDE = 51,
+    PLOMBRISA_DISTANCE_OUT_OF_RANGE = 52,
+    PLOMBRISA_RECTANGLE_SIDES = 53,
+    PLOMBRISA_TOO_MANY_CELLS = 54,
+    PLOMBRISA_GRID_LENGTH = 55
+};
+
+/* Four helpers in plain C, which are tested and not proved. They stand in plombrisa.c: the installed libraries hold them, and a
+ * program that links the archive of the repository, target/staticlib/libplombrisa.a, compiles that file too. */
+
+/* How many cells the rooms of a match need: numbers of uint64_t in whole_room, of float in float_room. A number of disparities that
+ * is not positive counts as 0; the match refuses it. The answer is SIZE_MAX, and no room is that long, where the count does not fit. */
+size_t plombrisa_whole_cells(size_t width, size_t height);
+size_t plombrisa_float_cells(size_t width, size_t height, int32_t num_disparities, bool semi_global);
+
+/* The sentence for a number that was answered, without a full stop: "done" for 0, "no such number" for one that is not in the enum.
+ * It is never NULL, and it is not to be freed. */
+const char *plombrisa_reason(uint32_t number);
+
+/* The version of the library, "0.1.0": the PLOMBRISA_VERSION that it was compiled with. */
+const char *plombrisa_version(void);
+
+/* All that follows is proved. */
+
 /* The map of two pictures: cell (x, y) in cell y*w + x of out, a NaN where it is blank. whole_room needs 5(w+1)(h+1) cells,
- * float_room V + w*h, or 3V + w*h in semi-global mode, with V = num_disparities*w*h. In semi-global mode the penalties are from 0
- * to 1,024, and sgm_p2 is not below sgm_p1. */
+ * which is what plombrisa_whole_cells answers, and float_room V + w*h, or 3V + w*h in semi-global mode, with V =
+ * num_disparities*w*h, which is what plombrisa_float_cells answers. In semi-global mode the penalties are from 0 to 1,024, and sgm_p2
+ * is not below sgm_p1. */
 uint32_t plombrisa_match_block(
     const uint8_t *left, size_t left_len, size_t left_width, size_t left_height,
     const uint8_t *right, size_t right_len, size_t right_width, size_t right_height,
@@ -23,7 +103,8 @@ uint32_t plombrisa_match_block(
     bool semi_global, float sgm_p1, float sgm_p2,
     float *out, size_t out_len, uint64_t *whole_room, size_t whole_len, float *float_room, size_t float_len);
 
-/* The raw costs from one side: index k of pixel (x, y) in cell k*w*h + y*w + x of out, negative infinity where it is blank. */
+/* The raw costs from one side: index k of pixel (x, y) in cell k*w*h + y*w + x of out, negative infinity where it is blank. The room
+ * is as long as a match's whole_room. */
 uint32_t plombrisa_raw_volume(
     const uint8_t *left, size_t left_len, size_t left_width, size_t left_height,
     const uint8_t *right, size_t right_len, size_t right_width, size_t right_height,

@@ -1,85 +1,62 @@
-//! The examples of the README: the text there is the text compiled here. The two matches answer the worked example of document 01.
-use runs::limits::FIRST_MOST;
+//! The examples of the page on use: the text there is the text compiled here. The two matches answer the worked example of document 01.
+mod common;
+
+use common::{C, CPP, empty_folder, ended, linked, printed, repository};
 use runs::program::{program_at, shell_line};
-use std::fs::read_to_string;
-use std::path::{Path, PathBuf};
+use std::fs::{self, read_to_string};
 use std::process::Command;
 
-fn repository() -> PathBuf {
-    Path::new(env!("CARGO_MANIFEST_DIR")).join("../..")
+/// The page that shows the examples.
+const PAGE: &str = "docs/USE.md";
+
+fn page() -> String {
+    read_to_string(repository().join(PAGE)).unwrap_or_else(|error| panic!("{PAGE}: {error}"))
 }
 
-/// What a command prints; it must succeed.
-fn printed(command: &mut Command) -> String {
-    let output = command.output().expect("the command runs");
-    assert!(output.status.success(), "{}: {}", output.status, String::from_utf8_lossy(&output.stderr));
-    String::from_utf8(output.stdout).expect("text")
+fn example(name: &str) -> String {
+    read_to_string(repository().join("host/plombrisa/examples").join(name)).expect(name)
 }
 
 #[test]
-fn the_readme_shows_them() {
-    let readme = read_to_string(repository().join("README.md")).expect("README.md");
+fn the_page_shows_them() {
+    let page = page();
     for name in ["match.c", "match.rs", "sheet.rs", "netpbm.rs", "volume.rs", "rows.rs", "vendor.rs"] {
-        let text = read_to_string(repository().join("host/plombrisa/examples").join(name)).expect(name);
-        assert!(readme.contains(&text), "README.md does not show {name} as it is");
+        assert!(page.contains(&example(name)), "{PAGE} does not show {name} as it is");
     }
-}
-
-/// A language that the header is for: where the compiler for the library's processor is named, how it is called otherwise, and its words.
-struct Language {
-    variable: &'static str,
-    usual: &'static str,
-    words: &'static [&'static str],
-}
-
-const C: Language = Language { variable: "CC", usual: "cc", words: &["-x", "c", "-std=c11"] };
-
-/// With C++'s own library inside the program, for the emulator has none for it.
-const CPP: Language =
-    Language { variable: "CXX", usual: "c++", words: &["-x", "c++", "-std=c++17", "-static-libstdc++", "-static-libgcc"] };
-
-/// What a source of host/plombrisa prints that is compiled as one of the languages.
-fn printed_by(source: &str, language: &Language) -> String {
-    let home = repository().join("host/plombrisa");
-    let program = Path::new(env!("CARGO_TARGET_TMPDIR")).join(format!("{}_{}", source.replace(['/', '.'], "_"), language.variable));
-    let compiler = std::env::var(language.variable).unwrap_or_else(|_| String::from(language.usual));
-    printed(
-        Command::new(compiler)
-            .args(language.words)
-            .arg(format!("-DFIRST_MOST={FIRST_MOST}"))
-            .args(["-Wall", "-Wextra", "-Wpedantic", "-Werror", "-I"])
-            .arg(home.join("include"))
-            .arg(home.join(source))
-            .args(["-x", "none"])
-            .arg(repository().join("target/staticlib/libplombrisa.a"))
-            .arg("-o")
-            .arg(&program),
-    );
-    printed(&mut program_at(&program))
+    let readme = read_to_string(repository().join("README.md")).expect("README.md");
+    assert!(readme.contains(&example("match.rs")), "README.md does not show match.rs as it is");
 }
 
 #[test]
 fn the_c_example_runs_as_c_and_as_cpp() {
+    let source = repository().join("host/plombrisa/examples/match.c");
     for language in [C, CPP] {
-        assert_eq!(printed_by("examples/match.c", &language), "disparity at (2, 1): 1\n");
+        assert_eq!(printed(&mut program_at(&linked(&source, &language, &[]))), "disparity at (2, 1): 1\n");
     }
 }
 
-/// The README's line that compiles the example, as it stands.
+/// The example with a block of 4 says why it is refused.
 #[test]
-fn the_readme_compiles_the_c_example() {
-    let readme = read_to_string(repository().join("README.md")).expect("README.md");
-    let line = readme.lines().find(|line| line.contains("host/plombrisa/examples/match.c ")).expect("the line");
+fn the_c_example_prints_the_reason_of_a_refusal() {
+    let text = example("match.c");
+    let [accepted, refused] = ["0, 2, 3, 0.5f", "0, 2, 4, 0.5f"];
+    assert_eq!(text.matches(accepted).count(), 1, "the example has its options in another way");
+    let source = empty_folder("refused").join("refused.c");
+    fs::write(&source, text.replace(accepted, refused)).expect("the source can be written");
+    let output = ended(&mut program_at(&linked(&source, &C, &[])));
+    let reason = plombrisa::Refusal::BlockEven.reason();
+    assert_eq!(String::from_utf8(output.stdout).expect("text"), format!("refused, 4: {reason}\n"));
+    assert_eq!(output.status.code(), Some(1));
+}
+
+/// The page's line that compiles the example, as it stands.
+#[test]
+fn the_page_compiles_the_c_example() {
+    let page = page();
+    let line = page.lines().find(|line| line.contains("host/plombrisa/examples/match.c ")).expect("the line");
     let shown = printed(shell_line(line).current_dir(repository()));
     assert_eq!(shown, "disparity at (2, 1): 1\n");
-    assert!(readme.contains(&format!("prints `{}`", shown.trim_end())));
-}
-
-#[test]
-fn the_header_declares_the_exports_as_they_are() {
-    for language in [C, CPP] {
-        assert_eq!(printed_by("tests/header.c", &language), "");
-    }
+    assert!(page.contains(&format!("prints `{}`", shown.trim_end())));
 }
 
 /// What a Rust example prints.
