@@ -85,6 +85,19 @@ fn pictures(case: &Case) -> (Picture<'_>, Picture<'_>) {
     (of(case.left.as_slice(), case.left_size), of(case.right.as_slice(), case.right_size))
 }
 
+/// The Rust's map.
+pub fn rust_map(case: &Case) -> Result<Vec<f32>, String> {
+    let (left, right) = (gray(&case.left, case.left_size), gray(&case.right, case.right_size));
+    let map = dense::match_block(&left, &right, &rust_options(&case.options));
+    map.map(|map| map.data).map_err(|e| format!("the Rust refused: {e:?}"))
+}
+
+/// The Rust's raw volume from one side.
+pub fn rust_volume(case: &Case, from_right: bool) -> Vec<f32> {
+    let (left, right) = (opened_gray(&case.left, case.left_size), opened_gray(&case.right, case.right_size));
+    opened::raw_volume(&left, &right, from_right, &opened_options(&case.options))
+}
+
 /// A match: the answer, every cell of the map, and both rooms.
 pub fn check_match(case: &Case) -> Result<(), String> {
     let (left, right) = pictures(case);
@@ -101,8 +114,7 @@ pub fn check_match(case: &Case) -> Result<(), String> {
     if number != 0 {
         return same_bits("output of a refused match", &out, &out_was);
     }
-    let rust = dense::match_block(&gray(&case.left, case.left_size), &gray(&case.right, case.right_size), &rust_options(&case.options));
-    same_cells("map", &out, &rust.map_err(|e| format!("the Rust refused: {e:?}"))?.data)?;
+    same_cells("map", &out, &rust_map(case)?)?;
     check_cover(case, &out)
 }
 
@@ -130,9 +142,7 @@ pub fn check_volume(case: &Case, from_right: bool) -> Result<(), String> {
     if number != 0 {
         return same_bits("output of a refused raw volume", &out, &out_was);
     }
-    let (a, b) = (opened_gray(&case.left, case.left_size), opened_gray(&case.right, case.right_size));
-    let rust = opened::raw_volume(&a, &b, from_right, &opened_options(&case.options));
-    same_cells("raw volume", &out, &rust)
+    same_cells("raw volume", &out, &rust_volume(case, from_right))
 }
 
 /// A match alone, and the number that it answers.

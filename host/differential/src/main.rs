@@ -5,6 +5,7 @@
 mod case;
 mod compare;
 mod covers;
+mod fixed;
 mod maps;
 mod numbers;
 mod pictures;
@@ -154,6 +155,7 @@ fn main() {
     let mut run = Run { seed, tallies: Vec::new(), refusals: [0; 27], matched: 0 };
 
     named(&mut run);
+    fixed::cases().iter().for_each(|(kind, case)| run.try_case(kind, case));
     wrong_way_round(&mut run, &mut Rng::new(seed.rotate_left(32)));
     exhaustive(&mut run, &mut rng, share(15));
     others(&mut run, &mut Rng::new(!seed), share(35));
