@@ -1,4 +1,4 @@
--- What the table leaves of a call that it does not refuse. Definitions only.
+-- What the table leaves of a call that it does not refuse (docs/SPECIFICATION.md, "Numbers given back"). Definitions only.
 use Prim.Native.Nat.{_*_, _/_, _≤_, _<_}
 use mathlib.Core.Path.{_≡_}
 use mathlib.Core.Bool.{false, not, _&&_}

@@ -1,4 +1,4 @@
--- The numbers given back: document 01's table, tested in its order. Definitions only.
+-- The numbers given back: one table, tested in its order (docs/SPECIFICATION.md, "Numbers given back", "Rooms"). Definitions only.
 use Prim.Native.Nat.{ℕ, _+_, _*_}
 use mathlib.Core.Bool.{Bool, false, cond, not, _&&_, _||_}
 use mathlib.Core.List.{List, [], _∷_, _++_}
@@ -84,7 +84,7 @@ outRows q = row 11 (not (eqb (q .«out_len») (outCells q (q .output)))) ∷ []
 unfoldable pub roomRows : Call → List Row
 roomRows q = row 12 (ltb (q .«whole_len») (wholeCells q) || ltb (q .«float_len») (floatCells q (q .output))) ∷ []
 
--- THE TABLE, in document 01's order, with 13 straight after 10
+-- THE TABLE, in its order, with 13 straight after 10
 unfoldable pub table : Call → List Row
 table q = pairRows q ++ penaltyRows q ++ outRows q ++ roomRows q
 

@@ -1,4 +1,4 @@
--- Block choice. Definitions only.
+-- Block choice (docs/SPECIFICATION.md, "Block choice"). Definitions only.
 use Prim.Native.Nat.{ℕ, _+_, _*_}
 use mathlib.Core.Bool.{Bool, false, cond, _||_}
 use mathlib.Core.List.{List, map}

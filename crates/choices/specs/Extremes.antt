@@ -1,4 +1,5 @@
--- What the walks along a pixel's raw costs and sums find, said without the walk. Definitions only.
+-- What the walks along a pixel's raw costs and sums find, said without the walk
+-- (docs/SPECIFICATION.md, "Block choice", "Semi-global choice"). Definitions only.
 use Prim.Native.Nat.{ℕ, _<_}
 use mathlib.Core.Path.{_≡_}
 use mathlib.Core.Bool.{true, false}

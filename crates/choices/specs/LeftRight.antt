@@ -1,4 +1,4 @@
--- The left-right test, in f32. Definitions only.
+-- The left-right test, in f32 (docs/SPECIFICATION.md, "Left-right test"). Definitions only.
 use Prim.Native.Nat.{ℕ, _+_, _*_, _/_, _%_}
 use mathlib.Core.Bool.{Bool, false, cond, not, _||_, _&&_}
 use mathlib.Core.List.{List}

@@ -1,4 +1,4 @@
--- Semi-global choice, on the sums of path costs. Definitions only.
+-- Semi-global choice, on the sums of path costs (docs/SPECIFICATION.md, "Semi-global choice"). Definitions only.
 use Prim.Native.Nat.{ℕ, _+_, _*_}
 use mathlib.Core.Bool.{false, cond}
 use mathlib.Core.List.{List}

@@ -1,4 +1,4 @@
--- Sub-pixel, all in f32. Definitions only.
+-- Sub-pixel, all in f32 (docs/SPECIFICATION.md, "Sub-pixel"). Definitions only.
 use Prim.Native.Nat.{ℕ, _+_, _-_}
 use mathlib.Core.Bool.{Bool, cond, _&&_}
 use mathlib.Core.List.{List}

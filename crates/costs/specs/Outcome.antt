@@ -1,4 +1,4 @@
--- The outcome of a raw volume. Definitions only.
+-- The outcome of a raw volume (docs/SPECIFICATION.md, "Numbers given back", "Rooms"). Definitions only.
 use Prim.Native.Nat.{ℕ, _/_}
 use mathlib.Core.Path.{_≡_}
 use mathlib.Core.Bool.{false}

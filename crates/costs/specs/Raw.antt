@@ -1,4 +1,4 @@
--- The raw cost of document 01. Definitions only.
+-- The raw cost (docs/SPECIFICATION.md, "Raw cost"). Definitions only.
 use Prim.Native.Nat.{ℕ, _+_, _-_, _*_}
 use mathlib.Core.Bool.{Bool, cond, _||_}
 use mathlib.Core.List.{List}

@@ -1,4 +1,4 @@
--- The raw volume: the raw costs of all indices and pixels, as a list of cells. Definitions only.
+-- The raw volume: the raw costs of all indices and pixels, as a list of cells (docs/SPECIFICATION.md, "Raw cost"). Definitions only.
 use Prim.Native.Nat.{ℕ, _*_, _/_, _%_}
 use mathlib.Core.List.{List}
 use lib.IntN.{ℤ}

@@ -1,4 +1,4 @@
--- What the program prints for an input. Definitions only.
+-- What the program prints for an input (docs/SPECIFICATION.md, "The print program"). Definitions only.
 use Prim.Native.Nat.{ℕ, _+_, _*_}
 use mathlib.Core.Path.{_≡_}
 use mathlib.Core.Bool.{cond}

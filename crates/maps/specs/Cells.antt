@@ -1,4 +1,4 @@
--- The cells of a map as they lie in a float buffer. Definitions only.
+-- The cells of a map as they lie in a float buffer (docs/SPECIFICATION.md, "Map"). Definitions only.
 use mathlib.Core.Bool.{cond}
 use mathlib.Core.List.{List, [], _∷_}
 use lib.Dec.{T}

@@ -1,4 +1,4 @@
--- What the walk along cells finds, said without the walk. Definitions only.
+-- What the walk along cells finds, said without the walk (docs/SPECIFICATION.md, "Map"). Definitions only.
 use Prim.Native.Nat.{ℕ, _<_}
 use mathlib.Core.Path.{_≡_}
 use mathlib.Core.Bool.{Bool, true, false}

@@ -1,4 +1,4 @@
--- What a map's answers give back: a value, or the number of the refusal. Definitions only.
+-- What a map's answers give back: a value, or the number of the refusal (docs/SPECIFICATION.md, "Numbers given back"). Definitions only.
 use Prim.Native.Nat.{ℕ}
 use mathlib.Core.Bool.{Bool}
 use mathlib.Core.Option.{Option, none, some}

@@ -1,4 +1,4 @@
--- What a map's functions answer, each from the list of the map's cells. Definitions only.
+-- What a map's functions answer, each from the list of the map's cells (docs/SPECIFICATION.md, "Map", "Cover"). Definitions only.
 use Prim.Native.Nat.{ℕ, _+_, _-_, _*_, _/_}
 use mathlib.Core.Bool.{Bool, not, _&&_, cond}
 use mathlib.Core.List.{List, [], _∷_, _++_}

@@ -1,4 +1,4 @@
--- A match that is accepted, of bytes and of f32 options. Definitions only.
+-- A match that is accepted, of bytes and of f32 options (docs/SPECIFICATION.md, "The three demands"). Definitions only.
 use Prim.Native.Nat.{ℕ, _≤_}
 use mathlib.Core.Path.{_≡_}
 use mathlib.Core.List.{List}

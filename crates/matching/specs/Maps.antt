@@ -1,4 +1,4 @@
--- The map of a match, from the raw volumes of document 01. Definitions only.
+-- The map of a match, from its raw volumes (docs/SPECIFICATION.md, "Steps"). Definitions only.
 use Prim.Native.Nat.{ℕ, _*_, _/_}
 use mathlib.Core.Bool.{cond}
 use mathlib.Core.List.{List, map}

@@ -1,4 +1,4 @@
--- The outcome of a match. Definitions only.
+-- The outcome of a match (docs/SPECIFICATION.md, "Numbers given back", "Rooms"). Definitions only.
 use Prim.Native.Nat.{ℕ}
 use mathlib.Core.Path.{_≡_}
 use mathlib.Core.Bool.{false}

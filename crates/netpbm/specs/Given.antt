@@ -1,4 +1,4 @@
--- What the answers of the calls that read give back. Definitions only.
+-- What the answers of the calls that read give back (docs/SPECIFICATION.md, "Numbers given back"). Definitions only.
 use Prim.Native.Nat.{ℕ}
 use Rattle.refusals.specs.Steps.{Or, is, refused}
 use Rattle.netpbm.specs.declared.raster.Size.{Size}

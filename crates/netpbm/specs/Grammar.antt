@@ -1,4 +1,5 @@
--- A PGM file and a PFM header as the Netpbm pages describe them, said of the bytes that are there. Definitions only.
+-- A PGM file and a PFM header as the Netpbm pages describe them, said of the bytes that are there
+-- (docs/SPECIFICATION.md, "PGM", "PFM"). Definitions only.
 use Prim.Native.Nat.{ℕ, _+_, _*_, _<_}
 use mathlib.Core.Path.{_≡_}
 use mathlib.Core.Bool.{true, false, _&&_}

@@ -1,4 +1,5 @@
--- The parts of a header, over bytes: each is taken from the front, and leaves the bytes after it. What is not there is refused with 41. Definitions only.
+-- The parts of a header, over bytes: each is taken from the front, and leaves the bytes after it. What is not there is refused with 41
+-- (docs/SPECIFICATION.md, "PGM", "PFM"). Definitions only.
 use Prim.Native.Nat.{ℕ}
 use mathlib.Core.Bool.{Bool, true, false, cond, _&&_, _||_}
 use mathlib.Core.List.{List, [], _∷_}

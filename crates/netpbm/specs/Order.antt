@@ -1,4 +1,5 @@
--- The order of bytes, said once for both orders: readers and writers use `fourBytes` and `fourPattern` alone. Definitions only.
+-- The order of bytes, said once for both orders: readers and writers use `fourBytes` and `fourPattern` alone
+-- (docs/SPECIFICATION.md, "PFM"). Definitions only.
 use Prim.Native.Nat.{ℕ, zero, suc, _+_, _*_, _/_, _%_}
 use mathlib.Core.List.{List, [], _∷_, reverse}
 use Rattle.netpbm.specs.declared.order.Order.{Order}

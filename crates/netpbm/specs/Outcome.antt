@@ -1,4 +1,5 @@
--- What the calls that read answer, and what they leave in the lent output. A refusal changes nothing. Definitions only.
+-- What the calls that read answer, and what they leave in the lent output. A refusal changes nothing
+-- (docs/SPECIFICATION.md, "PGM", "PFM"). Definitions only.
 use Prim.Native.Nat.{ℕ, _*_}
 use mathlib.Core.Path.{_≡_}
 use mathlib.Core.List.{List}

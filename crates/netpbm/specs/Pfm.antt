@@ -1,4 +1,4 @@
--- The PFM file of a map, and what bytes say as one. Definitions only.
+-- The PFM file of a map, and what bytes say as one (docs/SPECIFICATION.md, "PFM"). Definitions only.
 use Prim.Native.Nat.{ℕ, zero, suc, _+_, _*_}
 use mathlib.Core.Path.{_≡_}
 use mathlib.Core.Bool.{true, false, cond, _||_}

@@ -1,4 +1,5 @@
--- What bytes say as a PGM picture: the Netpbm page's list of what an image consists of, in its order. Definitions only.
+-- What bytes say as a PGM picture: the Netpbm page's list of what an image consists of, in its order
+-- (docs/SPECIFICATION.md, "PGM"). Definitions only.
 use Prim.Native.Nat.{ℕ}
 use mathlib.Core.List.{List, [], _∷_}
 use lib.Dec.{eqb}

@@ -1,4 +1,4 @@
--- A raster: a picture's levels or a map's cells, with their width and height. Definitions only.
+-- A raster: a picture's levels or a map's cells, with their width and height (docs/SPECIFICATION.md, "PGM", "PFM"). Definitions only.
 use Prim.Native.Nat.{ℕ, _*_}
 use mathlib.Core.Bool.{cond, _&&_}
 use mathlib.Core.List.{List}

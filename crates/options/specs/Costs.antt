@@ -1,4 +1,4 @@
--- A raw cost in a float buffer, and the range of raw costs. Definitions only.
+-- A raw cost in a float buffer, and the range of raw costs (docs/SPECIFICATION.md, "Raw cost"). Definitions only.
 use mathlib.Core.Bool.{true, false, cond}
 use lib.Dec.{T}
 use lib.IntN.{pos}

@@ -1,4 +1,5 @@
--- The inner frame of a picture or a map: the pixels whose window of 2r + 1 pixels a side lies within it. Definitions only.
+-- The inner frame of a picture or a map: the pixels whose window of 2r + 1 pixels a side lies within it
+-- (docs/SPECIFICATION.md, "Words"). Definitions only.
 use Prim.Native.Nat.{ℕ, _+_, _/_, _%_}
 use mathlib.Core.Bool.{Bool, _&&_}
 use lib.Dec.{leb, ltb}

@@ -1,4 +1,4 @@
--- The sizes allowed: document 01, "Sizes and rooms". Definitions only.
+-- The sizes allowed (docs/SPECIFICATION.md, "Sizes"). Definitions only.
 use Prim.Native.Nat.{ℕ, _+_, _%_}
 use mathlib.Core.Bool.{Bool, false, _&&_, _||_}
 use lib.Dec.{leb, ltb, eqb}

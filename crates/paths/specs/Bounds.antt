@@ -1,4 +1,4 @@
--- Ranges of binary32 numbers. Definitions only.
+-- Ranges of binary32 numbers (docs/SPECIFICATION.md, "Path costs"). Definitions only.
 use Prim.Native.Nat.{ℕ, _*_, _≤_}
 use mathlib.Core.Path.{_≡_}
 use mathlib.Core.Bool.{true, false}

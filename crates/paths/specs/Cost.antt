@@ -1,4 +1,4 @@
--- The matching cost (document 01, "Path costs"), and the costs of one picture as the other sees them. Definitions only.
+-- The matching cost, and the costs of one picture as the other sees them (docs/SPECIFICATION.md, "Path costs"). Definitions only.
 use Prim.Native.Nat.{ℕ, _+_, _*_, _/_, _%_, _≤_}
 use mathlib.Core.Bool.{false}
 use mathlib.Core.List.{List}

@@ -1,5 +1,5 @@
--- The path costs L of one pixel, in binary32 (document 01, "Path costs"). `prev` holds L at the previous pixel, `cost` the matching costs c of this one.
--- Definitions only.
+-- The path costs L of one pixel, in binary32. `prev` holds L at the previous pixel, `cost` the matching costs c of this one
+-- (docs/SPECIFICATION.md, "Path costs"). Definitions only.
 use Prim.Native.Nat.{ℕ, zero, suc, _+_}
 use mathlib.Core.Bool.{false, cond}
 use mathlib.Core.List.{List, [], _∷_}

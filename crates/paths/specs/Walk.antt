@@ -1,5 +1,5 @@
--- The path costs of a picture (document 01, "Path costs"). Pixel p is column p % w of row p / w; volumes are pixel-major, so that its `count` cells are the
--- run from p * count. Definitions only.
+-- The path costs of a picture. Pixel p is column p % w of row p / w; volumes are pixel-major, so that its `count` cells are the run from p * count
+-- (docs/SPECIFICATION.md, "Path costs"). Definitions only.
 use Prim.Native.Nat.{ℕ, zero, suc, _+_, _*_, _/_, _%_}
 use mathlib.Core.Path.{_≡_}
 use mathlib.Core.Bool.{Bool, true, false, cond}

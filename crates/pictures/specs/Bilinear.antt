@@ -1,4 +1,5 @@
--- A grey picture read between its pixels, step by step as the Rust has it, each operation in binary64. Definitions only.
+-- A grey picture read between its pixels, step by step as the Rust has it, each operation in binary64
+-- (docs/SPECIFICATION.md, "Grey picture"). Definitions only.
 use Prim.Native.Nat.{ℕ, _+_, _-_, _*_, _^_, min}
 use mathlib.Core.Bool.{true, false, _||_, cond}
 use mathlib.Core.List.{List, [], _∷_, _++_}

@@ -1,4 +1,4 @@
--- What the grey picture's answers give back: a value, or the number of the refusal. Definitions only.
+-- What the grey picture's answers give back: a value, or the number of the refusal (docs/SPECIFICATION.md, "Numbers given back"). Definitions only.
 use Prim.Native.Nat.{ℕ}
 use lib.Ieee.{Float}
 use Rattle.refusals.specs.Steps.{Or, is, refused}

@@ -1,4 +1,5 @@
--- A grey picture is a list of bytes, row by row: what refuses it, and the level of one pixel. Definitions only.
+-- A grey picture is a list of bytes, row by row: what refuses it, and the level of one pixel
+-- (docs/SPECIFICATION.md, "Grey picture"). Definitions only.
 use Prim.Native.Nat.{ℕ, _*_, _<_}
 use mathlib.Core.Bool.{not, _&&_}
 use mathlib.Core.List.{List, [], _∷_, _++_}

@@ -1,4 +1,4 @@
--- What the answers of `points` give back. Definitions only.
+-- What the answers of `points` give back (docs/SPECIFICATION.md, "Numbers given back"). Definitions only.
 use Prim.Native.Nat.{ℕ}
 use mathlib.Core.Option.{Option, none, some}
 use lib.Ieee.{Float}

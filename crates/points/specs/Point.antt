@@ -1,4 +1,4 @@
--- The point formula, each operation once in binary64, and its checks. Definitions only.
+-- The point formula, each operation once in binary64, and its checks (docs/SPECIFICATION.md, "Points"). Definitions only.
 use mathlib.Core.Bool.{Bool, false, _&&_, cond}
 use lib.IntN.{pos}
 use lib.Ieee.{Float, fin, binary64, lt, ofBits}

@@ -1,4 +1,5 @@
--- What the list of points holds, from the list of a map's cells, and what `points` answers and leaves. Definitions only.
+-- What the list of points holds, from the list of a map's cells, and what `points` answers and leaves
+-- (docs/SPECIFICATION.md, "Points"). Definitions only.
 use Prim.Native.Nat.{ℕ, suc, _+_, _/_, _%_}
 use mathlib.Core.Path.{_≡_}
 use mathlib.Core.Bool.{not, cond}

@@ -1,4 +1,4 @@
--- Demand 3's two pairs of pictures: outside rows p to q each level v becomes m·v + s. Definitions only.
+-- Demand 3's two pairs of pictures: outside rows p to q each level v becomes m·v + s (docs/SPECIFICATION.md, "The three demands"). Definitions only.
 use Prim.Native.Nat.{ℕ, _+_, _*_, _^_, _≤_, _<_}
 use mathlib.Core.Path.{_≡_}
 use mathlib.Core.Logic.{_⊎_}

@@ -1,4 +1,4 @@
--- Demand 3, of the maps of two pairs of pictures. Definitions only.
+-- Demand 3, of the maps of two pairs of pictures (docs/SPECIFICATION.md, "The three demands"). Definitions only.
 use Prim.Native.Nat.{ℕ, _<_}
 use mathlib.Core.Path.{_≡_}
 use mathlib.Core.Logic.{_⊎_}

@@ -1,4 +1,5 @@
--- Rows of reasons to refuse, tested by their place, and what it means that a number is answered. Definitions only.
+-- Rows of reasons to refuse, tested by their place, and what it means that a number is answered
+-- (docs/SPECIFICATION.md, "Numbers given back"). Definitions only.
 use Prim.Native.Nat.{ℕ, _<_}
 use mathlib.Core.Path.{_≡_}
 use mathlib.Core.Bool.{Bool, true, false, cond}

@@ -1,4 +1,5 @@
--- The index beside a map: one record per row, and what a fresh index and an edit answer and leave. Definitions only.
+-- The index beside a map: one record per row, and what a fresh index and an edit answer and leave
+-- (docs/SPECIFICATION.md, "Row index"). Definitions only.
 use Prim.Native.Nat.{ℕ, _+_, _*_}
 use mathlib.Core.Path.{_≡_}
 use mathlib.Core.Bool.{not, cond}

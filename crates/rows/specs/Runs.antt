@@ -1,4 +1,4 @@
--- Edits one after the other, of a map and the index beside it. Definitions only.
+-- Edits one after the other, of a map and the index beside it (docs/SPECIFICATION.md, "Row index"). Definitions only.
 use Prim.Native.Nat.{ℕ, _+_}
 use mathlib.Core.Bool.{cond}
 use mathlib.Core.List.{List, [], _∷_}

@@ -1,4 +1,4 @@
--- The kinds of a sheet, and the number that stands for a cell in each. Definitions only.
+-- The kinds of a sheet, and the number that stands for a cell in each (docs/SPECIFICATION.md, "Sheets"). Definitions only.
 use Prim.Native.Nat.{ℕ, zero, suc, _+_, _*_, _/_, _%_, _^_}
 use mathlib.Core.Bool.{Bool, true, false, not, cond, _&&_, _||_}
 use mathlib.Core.List.{List, [], _∷_}

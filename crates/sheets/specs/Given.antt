@@ -1,4 +1,4 @@
--- What a sheet's answer gives back. Definitions only.
+-- What a sheet's answer gives back (docs/SPECIFICATION.md, "Numbers given back"). Definitions only.
 use Prim.Native.Nat.{ℕ}
 use Rattle.refusals.specs.Steps.{Or, is, refused}
 use Rattle.sheets.specs.declared.reading.Said.{Said}

@@ -1,4 +1,4 @@
--- What version 1 of the sheet holds. Definitions only.
+-- What version 1 of the sheet holds (docs/SPECIFICATION.md, "Sheets"). Definitions only.
 use Prim.Native.Nat.{ℕ}
 use mathlib.Core.Bool.{Bool, _&&_}
 use lib.Dec.{leb}

@@ -1,4 +1,5 @@
--- A number as bytes: groups of seven bits, low group first, the high bit (128) set on all but the last group; shortest form only. Definitions only.
+-- A number as bytes: groups of seven bits, low group first, the high bit (128) set on all but the last group; shortest form only
+-- (docs/SPECIFICATION.md, "Sheets"). Definitions only.
 use Prim.Native.Nat.{ℕ, zero, suc, _+_, _-_, _*_, _/_, _%_, _<_}
 use mathlib.Core.Bool.{cond}
 use mathlib.Core.List.{List, [], _∷_}

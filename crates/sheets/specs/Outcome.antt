@@ -1,4 +1,4 @@
--- What the calls answer, and what they leave in what is lent. A refusal changes nothing. Definitions only.
+-- What the calls answer, and what they leave in what is lent. A refusal changes nothing (docs/SPECIFICATION.md, "Sheets"). Definitions only.
 use Prim.Native.Nat.{ℕ, _*_}
 use mathlib.Core.Path.{_≡_}
 use mathlib.Core.List.{List}

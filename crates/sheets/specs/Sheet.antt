@@ -1,4 +1,4 @@
--- The sheet of a map of a kind, as a list of bytes, and what a list of bytes says. Definitions only.
+-- The sheet of a map of a kind, as a list of bytes, and what a list of bytes says (docs/SPECIFICATION.md, "Sheets"). Definitions only.
 use Prim.Native.Nat.{ℕ, zero, suc, _*_}
 use mathlib.Core.Bool.{not, cond}
 use mathlib.Core.List.{List, [], _∷_, _++_}

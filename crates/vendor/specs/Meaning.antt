@@ -1,4 +1,4 @@
--- What a verdict says, without the tests that it is made of. Definitions only.
+-- What a verdict says, without the tests that it is made of (docs/SPECIFICATION.md, "Vendor's map"). Definitions only.
 use Prim.Native.Nat.{ℕ, _/_, _%_, _<_}
 use mathlib.Core.Path.{_≡_}
 use mathlib.Core.Bool.{true, false}

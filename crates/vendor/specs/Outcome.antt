@@ -1,4 +1,4 @@
--- The outcome of a check. Definitions only.
+-- The outcome of a check (docs/SPECIFICATION.md, "Vendor's map"). Definitions only.
 use Prim.Native.Nat.{ℕ}
 use mathlib.Core.Path.{_≡_}
 use mathlib.Core.Bool.{not, _&&_}

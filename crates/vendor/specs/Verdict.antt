@@ -1,4 +1,4 @@
--- A vendor's map beside the raw costs of its pair. Definitions only.
+-- A vendor's map beside the raw costs of its pair (docs/SPECIFICATION.md, "Vendor's map"). Definitions only.
 use Prim.Native.Nat.{ℕ, _*_, _/_, _%_}
 use mathlib.Core.Bool.{Bool, false, cond, not, _&&_, _||_}
 use mathlib.Core.List.{List}

@@ -1,4 +1,4 @@
--- What a heap's answers give back: values, or the number of the refusal. Definitions only.
+-- What a heap's answers give back: values, or the number of the refusal (docs/SPECIFICATION.md, "Numbers given back"). Definitions only.
 use Prim.Native.Nat.{ℕ}
 use Rattle.refusals.specs.Steps.{Or, is, refused}
 use Rattle.volume.specs.declared.site.Shape.{Shape}

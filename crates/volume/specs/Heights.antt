@@ -1,4 +1,5 @@
--- What stands in the cells, the counts and the volume, from the points in whole millimetres. Definitions only.
+-- What stands in the cells, the counts and the volume, from the points in whole millimetres
+-- (docs/SPECIFICATION.md, "Volume of a heap"). Definitions only.
 use Prim.Native.Nat.{ℕ, suc, _+_, _*_, _/_, _%_, max}
 use mathlib.Core.Bool.{Bool, true, not, cond, _&&_}
 use mathlib.Core.List.{List, [], _∷_}

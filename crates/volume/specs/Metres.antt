@@ -1,4 +1,4 @@
--- Coordinates in metres as whole millimetres. Definitions only.
+-- Coordinates in metres as whole millimetres (docs/SPECIFICATION.md, "Volume of a heap"). Definitions only.
 use Prim.Native.Nat.{ℕ}
 use mathlib.Core.Bool.{Bool, true, false, _&&_}
 use mathlib.Core.List.{List, [], _∷_}

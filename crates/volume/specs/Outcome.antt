@@ -1,4 +1,5 @@
--- The calls' refusals in their order, their answers, and the lent grid afterwards. A refusal changes nothing. Definitions only.
+-- The calls' refusals in their order, their answers, and the lent grid afterwards. A refusal changes nothing
+-- (docs/SPECIFICATION.md, "Volume of a heap"). Definitions only.
 use Prim.Native.Nat.{ℕ}
 use mathlib.Core.Path.{_≡_}
 use mathlib.Core.Bool.{Bool, true, not, _&&_}

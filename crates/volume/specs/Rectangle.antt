@@ -1,4 +1,4 @@
--- The rectangle, its cells, and the tests of a site. Definitions only.
+-- The rectangle, its cells, and the tests of a site (docs/SPECIFICATION.md, "Volume of a heap"). Definitions only.
 use Prim.Native.Nat.{ℕ, _*_, _/_, _%_}
 use mathlib.Core.Bool.{Bool, _&&_}
 use lib.Dec.{leb, ltb, eqb}

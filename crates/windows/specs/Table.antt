@@ -1,4 +1,4 @@
--- Summed-area tables of a picture. Definitions only.
+-- Summed-area tables of a picture (docs/SPECIFICATION.md, "Window sums"). Definitions only.
 use Prim.Native.Nat.{ℕ, zero, suc, _+_, _*_, _^_, _≤_, _<_}
 use mathlib.Core.Path.{_≡_}
 use mathlib.Core.List.{List, [], _++_}

@@ -1,4 +1,4 @@
--- Sums over a window of a picture. Definitions only.
+-- Sums over a window of a picture (docs/SPECIFICATION.md, "Window sums"). Definitions only.
 use Prim.Native.Nat.{ℕ, _+_, _*_, _-_, _≤_, _<_}
 use mathlib.Core.Path.{_≡_}
 use mathlib.Core.List.{List}

@@ -1,4 +1,4 @@
--- Document 01's worked examples P1 to P12, and the map that the print program shows: one table. Definitions only.
+-- The worked examples P1 to P12, and the map that the print program shows: one table (docs/SPECIFICATION.md, "Worked examples"). Definitions only.
 use Prim.Native.Nat.{ℕ, _+_, _^_}
 use mathlib.Core.Path.{_≡_}
 use mathlib.Core.Bool.{true, false}

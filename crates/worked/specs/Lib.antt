@@ -1,3 +1,3 @@
--- Document 01's worked examples.
+-- The worked examples (docs/SPECIFICATION.md, "Worked examples").
 pub mod Pictures
 pub mod Examples

@@ -1,4 +1,4 @@
--- What document 01's worked examples are given. Definitions only.
+-- What the worked examples are given (docs/SPECIFICATION.md, "Worked examples"). Definitions only.
 use Prim.Native.Nat.{ℕ}
 use mathlib.Core.Bool.{Bool, true, false}
 use mathlib.Core.List.{List, [], _∷_, _++_}
