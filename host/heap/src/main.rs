@@ -1,7 +1,7 @@
 //! Makes a pair of pictures of a heap, matches it in both modes, and draws the left picture and the two maps side by side.
 //!
 //! `heap FILE` writes the drawing as a PNG.
-//! `heap pair LEFT RIGHT` writes the pair as two PGM files, which are the tool's example.
+//! `heap pair LEFT RIGHT` writes the pair as two PGM files, which are the program's example.
 use heap::colours::{grey, of_cell};
 use heap::png;
 use heap::scene::Scene;
@@ -30,13 +30,16 @@ fn draw(file: &str) {
         println!("{name}: {valid} of {} cells valid", w * h);
     }
 
+    // one range for both, so that a colour means one disparity
+    let valid = || maps.iter().flatten().filter(|cell| cell.is_finite());
+    let (least, greatest) = valid().fold((f32::MAX, f32::MIN), |(least, most), cell| (least.min(*cell), most.max(*cell)));
     let gap = 6;
     let mut rows = vec![vec![[255u8; 3]; 3 * w + 2 * gap]; h];
     for y in 0..h {
         for x in 0..w {
             rows[y][x] = grey(scene.left[y * w + x]);
             for (i, map) in maps.iter().enumerate() {
-                rows[y][(i + 1) * (w + gap) + x] = of_cell(map[y * w + x], 0.0, 24.0);
+                rows[y][(i + 1) * (w + gap) + x] = of_cell(map[y * w + x], least, greatest);
             }
         }
     }

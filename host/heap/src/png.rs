@@ -1,4 +1,4 @@
-//! A PNG file with up to 256 colours, its data stored and not compressed.
+//! A PNG file, eight bits for each of red, green and blue, its data stored and not compressed.
 
 fn crc(bytes: &[u8]) -> u32 {
     !bytes.iter().fold(!0u32, |crc, byte| {
@@ -35,29 +35,13 @@ fn stored(data: &[u8]) -> Vec<u8> {
     out
 }
 
-/// The picture of some rows of colours; colours beyond 256 take the nearest that was met.
+/// The picture of some rows of colours, all rows of one length.
 pub fn encode(rows: &[Vec<[u8; 3]>]) -> Vec<u8> {
-    let mut palette: Vec<[u8; 3]> = Vec::new();
-    let mut data = Vec::new();
-    for row in rows {
-        data.push(0);
-        for colour in row {
-            let known = palette.iter().position(|c| c == colour);
-            let index = known.unwrap_or_else(|| {
-                if palette.len() < 256 {
-                    palette.push(*colour);
-                    return palette.len() - 1;
-                }
-                let apart = |c: &[u8; 3]| (0..3).map(|i| (c[i] as i32 - colour[i] as i32).pow(2)).sum::<i32>();
-                (0..256).min_by_key(|i| apart(&palette[*i])).expect("256 colours")
-            });
-            data.push(index as u8);
-        }
-    }
     let (width, height) = (rows[0].len() as u32, rows.len() as u32);
+    // before each row stands a byte that says that it is stored as it is
+    let data: Vec<u8> = rows.iter().flat_map(|row| std::iter::once(0).chain(row.iter().flatten().copied())).collect();
     let mut out = b"\x89PNG\r\n\x1a\n".to_vec();
-    chunk(&mut out, b"IHDR", &[&width.to_be_bytes()[..], &height.to_be_bytes()[..], &[8, 3, 0, 0, 0]].concat());
-    chunk(&mut out, b"PLTE", &palette.concat());
+    chunk(&mut out, b"IHDR", &[&width.to_be_bytes()[..], &height.to_be_bytes()[..], &[8, 2, 0, 0, 0]].concat());
     chunk(&mut out, b"IDAT", &stored(&data));
     chunk(&mut out, b"IEND", &[]);
     out

@@ -47,7 +47,7 @@ impl Scene {
         Self { width, height, left, right }
     }
 
-    /// The scene that the README shows and that the tool's example is of.
+    /// The scene that the README shows and that the example of the repository's root is of.
     pub fn example() -> Self {
         Self::new(200, 150)
     }
