@@ -3,7 +3,7 @@ use std::path::Path;
 use std::process::Command;
 
 /// The emulator, where cargo runs programs under one (host/x86_64.sh).
-fn emulator() -> Option<String> {
+pub fn emulator() -> Option<String> {
     std::env::var("CARGO_TARGET_X86_64_UNKNOWN_LINUX_GNU_RUNNER").ok()
 }
 

@@ -98,11 +98,11 @@ fn an_input_may_arrive_in_pieces() {
     assert_eq!(printed(&[&input, b"x"]), "BAD INPUT\n");
 }
 
-/// The README starts the program on the worked example, once it is made, and shows what it prints.
+/// The manual docs/USE.md starts the program on the worked example, once it is made, and shows what it prints.
 #[test]
-fn the_readme_says_what_is_printed() {
-    let readme = fs::read_to_string(repository().join("README.md")).expect("README.md");
-    let (_, behind) = readme.split_once("\n    rt check heap_print && ").expect("the command");
+fn the_manual_says_what_is_printed() {
+    let manual = fs::read_to_string(repository().join("docs/USE.md")).expect("docs/USE.md");
+    let (_, behind) = manual.split_once("\n    rt check heap_print && ").expect("the command");
     let (line, shown) = behind.split_once('\n').expect("a line");
     let ended = shell_line(line).current_dir(repository()).output().expect("a shell");
     let printed = String::from_utf8(ended.stdout).expect("text");
