@@ -10,6 +10,16 @@ pub enum Source {
     Map(String),
 }
 
+impl Source {
+    /// The files that are read.
+    pub fn files(&self) -> Vec<&str> {
+        match self {
+            Self::Pair { left, right } => vec![left, right],
+            Self::Map(map) => vec![map],
+        }
+    }
+}
+
 /// What is to be done. A file that is `-` is standard input or standard output.
 #[derive(Debug, PartialEq, Eq)]
 pub enum Deed {
@@ -73,27 +83,28 @@ struct Sorted {
     help: bool,
 }
 
-/// What a verb takes: the names of settings that it reads, and names of its own.
-struct Takes {
+/// A verb: the names of settings that it reads, names of its own, and the deed that its words ask for.
+struct Verb {
     settings: &'static [&'static [&'static str]],
     own: &'static [&'static str],
+    deed: fn(&Sorted) -> Result<Deed, String>,
 }
 
-impl Takes {
-    fn setting(&self, name: &str) -> bool {
+impl Verb {
+    fn takes(&self, name: &str) -> bool {
         self.settings.iter().any(|names| names.contains(&name))
     }
 }
 
 impl Sorted {
     /// Sorts the words behind a verb.
-    fn new(words: &mut dyn Iterator<Item = String>, takes: &Takes) -> Result<Self, String> {
+    fn new(words: &mut dyn Iterator<Item = String>, verb: &Verb) -> Result<Self, String> {
         let mut sorted = Self::default();
         let mut options_end = false;
         while let Some(word) = words.next() {
             match word.strip_prefix("--") {
                 Some("") if !options_end => options_end = true,
-                Some(option) if !options_end => sorted.take(option, words, takes)?,
+                Some(option) if !options_end => sorted.take(option, words, verb)?,
                 _ if word == "-h" && !options_end => sorted.help = true,
                 _ if word.starts_with('-') && word != "-" && !options_end => return Err(format!("{word} is not an option here")),
                 _ => sorted.files.push(word),
@@ -103,12 +114,12 @@ impl Sorted {
     }
 
     /// Takes one option, without its dashes, and its value, which stands behind `=` or is the next word.
-    fn take(&mut self, option: &str, words: &mut dyn Iterator<Item = String>, takes: &Takes) -> Result<(), String> {
+    fn take(&mut self, option: &str, words: &mut dyn Iterator<Item = String>, verb: &Verb) -> Result<(), String> {
         let (name, joined) = match option.split_once('=') {
             Some((name, value)) => (name, Some(String::from(value))),
             None => (option, None),
         };
-        let flag = FLAGS.iter().find(|(flag, setting, _)| *flag == name && takes.setting(setting));
+        let flag = FLAGS.iter().find(|(flag, setting, _)| *flag == name && verb.takes(setting));
         match (name, joined) {
             ("quiet" | "help", Some(_)) => return Err(format!("--{name} takes no value")),
             ("quiet", None) => self.quiet = true,
@@ -116,17 +127,17 @@ impl Sorted {
             (_, joined) => match (flag, joined) {
                 (Some(_), Some(_)) => return Err(format!("--{name} takes no value")),
                 (Some((_, setting, value)), None) => self.settings.0.push((String::from(*setting), String::from(*value))),
-                (None, joined) => self.take_value(name, joined, words, takes)?,
+                (None, joined) => self.take_value(name, joined, words, verb)?,
             },
         }
         Ok(())
     }
 
     fn take_value(
-        &mut self, name: &str, joined: Option<String>, words: &mut dyn Iterator<Item = String>, takes: &Takes,
+        &mut self, name: &str, joined: Option<String>, words: &mut dyn Iterator<Item = String>, verb: &Verb,
     ) -> Result<(), String> {
-        let own = name == "rig" || takes.own.contains(&name);
-        if !own && !takes.setting(name) {
+        let own = name == "rig" || verb.own.contains(&name);
+        if !own && !verb.takes(name) {
             return Err(format!("--{name} is not an option here"));
         }
         let value = joined.or_else(|| words.next()).ok_or_else(|| format!("--{name} needs a value"))?;
@@ -157,12 +168,13 @@ impl Sorted {
     }
 }
 
-const MATCH: Takes = Takes { settings: &[SEARCH, MATCHING, EXPECTED], own: &[] };
-const VOLUME: Takes = Takes { settings: &[SEARCH, MATCHING, CAMERA, SITE, EXPECTED], own: &["map", "heights"] };
-const POINTS: Takes = Takes { settings: &[SEARCH, MATCHING, CAMERA, EXPECTED], own: &["map", "picture"] };
-const CHECK: Takes = Takes { settings: &[SEARCH, EXPECTED], own: &[] };
-const WRITE_SHEET: Takes = Takes { settings: &[], own: &["kind"] };
-const READ_SHEET: Takes = Takes { settings: &[], own: &[] };
+const MATCH: Verb = Verb { settings: &[SEARCH, MATCHING, EXPECTED], own: &[], deed: match_deed };
+const VOLUME: Verb =
+    Verb { settings: &[SEARCH, MATCHING, CAMERA, SITE, EXPECTED], own: &["map", "heights"], deed: volume_deed };
+const POINTS: Verb = Verb { settings: &[SEARCH, MATCHING, CAMERA, EXPECTED], own: &["map", "picture"], deed: points_deed };
+const CHECK: Verb = Verb { settings: &[SEARCH, EXPECTED], own: &[], deed: check_deed };
+const WRITE_SHEET: Verb = Verb { settings: &[], own: &["kind"], deed: write_sheet_deed };
+const READ_SHEET: Verb = Verb { settings: &[], own: &[], deed: read_sheet_deed };
 
 fn match_deed(words: &Sorted) -> Result<Deed, String> {
     let (files, preview) = match &words.files[..] {
@@ -225,21 +237,21 @@ fn read_sheet_deed(words: &Sorted) -> Result<Deed, String> {
 
 /// The words behind a verb.
 fn behind(words: &mut dyn Iterator<Item = String>, topic: Topic) -> Result<Asked, Senseless> {
-    let (takes, deed): (&Takes, fn(&Sorted) -> Result<Deed, String>) = match topic {
-        Topic::Match => (&MATCH, match_deed),
-        Topic::Volume => (&VOLUME, volume_deed),
-        Topic::Points => (&POINTS, points_deed),
-        Topic::Check => (&CHECK, check_deed),
-        Topic::WriteSheet => (&WRITE_SHEET, write_sheet_deed),
-        Topic::ReadSheet => (&READ_SHEET, read_sheet_deed),
+    let verb = match topic {
+        Topic::Match => MATCH,
+        Topic::Volume => VOLUME,
+        Topic::Points => POINTS,
+        Topic::Check => CHECK,
+        Topic::WriteSheet => WRITE_SHEET,
+        Topic::ReadSheet => READ_SHEET,
         Topic::All | Topic::Sheet | Topic::Rig => return Ok(Asked::Help(topic)),
     };
     let senseless = |why| Senseless { why, topic };
-    let sorted = Sorted::new(words, takes).map_err(senseless)?;
+    let sorted = Sorted::new(words, &verb).map_err(senseless)?;
     if sorted.help {
         return Ok(Asked::Help(topic));
     }
-    let deed = deed(&sorted).map_err(senseless)?;
+    let deed = (verb.deed)(&sorted).map_err(senseless)?;
     sorted.settings.apply(&mut Settings::default()).map_err(senseless)?;
     Ok(Asked::Do { deed, rig: sorted.own("rig"), quiet: sorted.quiet, settings: sorted.settings })
 }

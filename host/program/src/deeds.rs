@@ -174,14 +174,10 @@ fn read_sheet_done(file: &str) -> Result<Done, Failure> {
 impl Deed {
     /// The files that are read, but for the rig file.
     pub fn inputs(&self) -> Vec<&str> {
-        let of_source = |source| match source {
-            &Source::Pair { ref left, ref right } => vec![left.as_str(), right],
-            Source::Map(map) => vec![map.as_str()],
-        };
         match self {
             Deed::Match { left, right, .. } => vec![left, right],
-            Deed::Volume { source, .. } => of_source(source),
-            Deed::Points { source, picture, .. } => of_source(source).into_iter().chain(picture.as_deref()).collect(),
+            Deed::Volume { source, .. } => source.files(),
+            Deed::Points { source, picture, .. } => source.files().into_iter().chain(picture.as_deref()).collect(),
             Deed::Check { left, right, map } => vec![left, right, map],
             Deed::WriteSheet { map, .. } => vec![map],
             Deed::ReadSheet { sheet, .. } => vec![sheet],

@@ -35,8 +35,8 @@ pub fn of_pair(left: Picture, right: Picture, options: &Options, map: Map) -> Op
 
 /// Whether a point is too far for a measurement.
 fn too_far(point: &PointRecord) -> bool {
-    let far = |coordinate: f64| !(millimetres(coordinate).abs() <= FARTHEST as f64);
-    far(point.x) || far(point.y) || far(point.z)
+    let far = |coordinate: f64| coordinate.is_nan() || millimetres(coordinate).abs() > FARTHEST as f64;
+    [point.x, point.y, point.z].into_iter().any(far)
 }
 
 /// The least whole disparity at which no pixel of a map gives a point that is too far.
