@@ -75,13 +75,17 @@ fn options_in_either_form() {
     }
 }
 
+/// Words that make no sense: status 2, why, how the verb is called, and where to read on.
+fn senseless(words: &[&str], why: &str) {
+    let ended = started(words);
+    assert_eq!((ended.status, ended.bytes.len()), (Some(2), 0), "{words:?}: {}", ended.err);
+    assert!(ended.err.starts_with("plombrisa: ") && ended.err.contains(why), "{words:?}: {}", ended.err);
+    assert!(ended.err.contains("\nusage: ") && ended.err.contains("\n`plombrisa help"), "{words:?}: {}", ended.err);
+}
+
 #[test]
 fn words_that_make_no_sense() {
-    let site = [&["volume", LEFT, RIGHT], &SITE[..]].concat();
-    let camera = [&["volume", LEFT, RIGHT], &CAMERA[..]].concat();
-    let no_floor = [&camera, &SITE[..10]].concat();
-    let half_a_floor = [&no_floor[..], &["--floor", "6.5"]].concat();
-    let unfit: [(&[&str], &str); 28] = [
+    let unfit: [(&[&str], &str); 17] = [
         (&[], "nothing was asked for"),
         (&["draw"], "draw is not a thing that plombrisa does"),
         (&["match"], "three files are needed, or four with a preview, and 0 were given"),
@@ -90,17 +94,7 @@ fn words_that_make_no_sense() {
         (&["match", "a", "b", "c", "--deep"], "--deep is not an option here"),
         (&["match", "a", "b", "c", "-q"], "-q is not an option here"),
         (&["match", "a", "b", "c", "--floor", "6000"], "--floor is not an option here"),
-        (&["match", "a", "b", "c", "--block-size"], "--block-size needs a value"),
-        (&["match", "a", "b", "c", "--block-size", "-1"], "--block-size does not take the value -1"),
-        (&["match", "a", "b", "c", "--block-size="], "--block-size does not take the value \n"),
-        (&["match", "a", "b", "c", "--min-disparity", "2147483648"], "--min-disparity does not take the value 2147483648"),
-        (&["match", "a", "b", "c", "--semi-global=yes"], "--semi-global takes no value"),
-        (&["match", "a", "b", "c", "--lens-height", "inf"], "--lens-height does not take the value inf"),
         (&["match", "-", "-", "c"], "standard input can be read once only"),
-        (&site, "--fx is missing"),
-        (&camera, "--left is missing"),
-        (&no_floor, "--floor is missing"),
-        (&half_a_floor, "--floor does not take the value 6.5"),
         (&["volume", "--map", "m", "a"], "no other files are needed, and 1 were given"),
         (&["volume", "--map", "m", "--num-disparities", "24"], "--num-disparities goes with two pictures, and not with --map"),
         (&["points", "a", "b", "c", "--picture", "d"], "--picture goes with --map"),
@@ -108,13 +102,33 @@ fn words_that_make_no_sense() {
         (&["check", "a", "b"], "three files are needed, and 2 were given"),
         (&["check", "a", "b", "c", "--semi-global"], "--semi-global is not an option here"),
         (&["sheet"], "sheet is followed by write or read"),
-        (&["sheet", "write", "a", "b", "--kind", "half"], "--kind does not take the value half"),
         (&["help", "draw"], "there is no help on draw"),
     ];
-    for (words, why) in unfit {
-        let ended = started(words);
-        assert_eq!((ended.status, ended.bytes.len()), (Some(2), 0), "{words:?}: {}", ended.err);
-        assert!(ended.err.starts_with(&format!("plombrisa: {}", why.trim_end())) || ended.err.contains(why), "{words:?}: {}", ended.err);
-        assert!(ended.err.contains("\nusage: ") && ended.err.contains("\n`plombrisa help"), "{words:?}: {}", ended.err);
-    }
+    unfit.iter().for_each(|(words, why)| senseless(words, why));
+}
+
+#[test]
+fn values_that_make_no_sense() {
+    let unfit: [(&[&str], &str); 7] = [
+        (&["--block-size"], "--block-size needs a value"),
+        (&["--block-size", "-1"], "--block-size does not take the value -1"),
+        (&["--block-size="], "--block-size does not take the value \n"),
+        (&["--min-disparity", "2147483648"], "--min-disparity does not take the value 2147483648"),
+        (&["--semi-global=yes"], "--semi-global takes no value"),
+        (&["--quiet=yes"], "--quiet takes no value"),
+        (&["--lens-height", "inf"], "--lens-height does not take the value inf"),
+    ];
+    unfit.iter().for_each(|(option, why)| senseless(&[&["match", "a", "b", "c"], *option].concat(), why));
+    senseless(&["sheet", "write", "a", "b", "--kind", "half"], "--kind does not take the value half");
+}
+
+#[test]
+fn a_camera_or_a_site_that_is_not_whole() {
+    let camera = [&["volume", LEFT, RIGHT], &CAMERA[..]].concat();
+    let no_floor = [&camera, &SITE[..10]].concat();
+    senseless(&[&["volume", LEFT, RIGHT], &SITE[..]].concat(), "--fx is missing");
+    senseless(&camera, "--left is missing");
+    senseless(&no_floor, "--floor is missing");
+    senseless(&[&no_floor[..], &["--floor", "6.5"]].concat(), "--floor does not take the value 6.5");
+    senseless(&["points", LEFT, RIGHT, "p", "--fx", "60"], "--fy is missing");
 }
