@@ -1,4 +1,4 @@
-//! Points as a PLY file, binary and little-endian, which CloudCompare, MeshLab and the like open.
+//! Points as a PLY file, binary and little-endian, which CloudCompare opens.
 use plombrisa::{Picture, PointRecord};
 
 /// The level of the picture at a point's pixel.
