@@ -146,12 +146,17 @@ fn check_done(left: &str, right: &str, map: &str, settings: &Settings) -> Result
     let (left, right, map) = (picture_of(left)?, picture_of(right)?, map_of(map)?);
     let (left, right, map) = (left.picture(), right.picture(), map.map());
     let unfit = |error| refused(&format!("{}, {} and {}", all[0], all[1], all[2]), error, None);
-    let text = match check_vendor(left, right, &settings.options, map).map_err(unfit)? {
-        Verdict::Yes => return Ok(Done { text: String::from("yes"), is_answer: true, ..Done::default() }),
-        Verdict::No { x, y } => format!("no: the cell in column {x} of row {y}"),
+    let verdict = check_vendor(left, right, &settings.options, map).map_err(unfit)?;
+    let Verdict::No { x, y } = verdict else {
+        return Ok(Done { text: String::from("yes"), is_answer: true, ..Done::default() });
     };
-    let tally = checking::tally(left, right, &settings.options, map).map_err(unfit)?;
-    Ok(Done { text: format!("{text}\n{}", tally.text()), is_answer: true, no: true, ..Done::default() })
+    // the verdict stands, whether or not there is memory to count
+    let counted = match checking::tally(left, right, &settings.options, map) {
+        Ok(tally) => tally.text(),
+        Err(error) => format!("bad: not counted, {error}"),
+    };
+    let text = format!("no: the cell in column {x} of row {y}\n{counted}");
+    Ok(Done { text, is_answer: true, no: true, ..Done::default() })
 }
 
 fn write_sheet_done(file: &str, kind: Kind) -> Result<Done, Failure> {

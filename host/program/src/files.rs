@@ -48,9 +48,14 @@ enum Target {
     Beside { place: PathBuf, beside: PathBuf, file: File },
 }
 
-/// The place of a file that is there or is to be: where a link points to.
+/// The place of a file that is there, where a link points to, or of one that is to be in its folder.
 fn place_of(file: &str) -> PathBuf {
-    fs::canonicalize(file).unwrap_or_else(|_| PathBuf::from(file))
+    let to_be = || {
+        let path = Path::new(file);
+        let folder = path.parent().filter(|folder| !folder.as_os_str().is_empty()).unwrap_or(Path::new("."));
+        Some(fs::canonicalize(folder).ok()?.join(path.file_name()?))
+    };
+    fs::canonicalize(file).ok().or_else(to_be).unwrap_or_else(|| PathBuf::from(file))
 }
 
 /// A new file beside a place, with the rights of the file that is there, which must be one that may be written.

@@ -28,14 +28,17 @@ const PICTURES: &[Met] = &[
 /// What makes a binary PGM file with the maximum 255 of another.
 const TO_255: &str = "pamdepth 255 FILE";
 
-/// What else is met, which no command makes a picture of.
-const OTHERS: &[(&[u8], &str)] = &[
+/// What else is met in a picture's place, which no command makes a picture of.
+const NO_PICTURES: &[(&[u8], &str)] = &[
     (b"P1", "a plain PBM bitmap, which has no grey levels"),
     (b"P4", "a PBM bitmap, which has no grey levels"),
     (b"Pf", "a PFM map and no picture"),
     (b"PF", "a PFM file in colours, which no map is"),
     (b"P5", "a PGM file whose header is cut or malformed"),
 ];
+
+/// What is met in a map's place, but for what is met in a picture's too.
+const NO_MAPS: &[(&[u8], &str)] = &[(b"Pf", "a PFM file whose header is cut or malformed"), (b"P5", "a PGM picture")];
 
 fn conversion(command: &str, file: &str) -> String {
     format!("{} > NEW.pgm converts it (Netpbm)", command.replace("FILE", file))
@@ -49,7 +52,7 @@ fn not_pgm(bytes: &[u8], file: &str) -> String {
     if let Some(met) = PICTURES.iter().find(|met| bytes.starts_with(met.begins)) {
         return format!("it is {}: {}", met.name, conversion(met.converted_by, file));
     }
-    match OTHERS.iter().find(|(begins, _)| bytes.starts_with(begins)) {
+    match NO_PICTURES.iter().find(|(begins, _)| bytes.starts_with(begins)) {
         Some((_, name)) => format!("it is {name}"),
         None => String::from("it is no picture of a format that is known here"),
     }
@@ -57,16 +60,15 @@ fn not_pgm(bytes: &[u8], file: &str) -> String {
 
 /// What a file is that was refused as no PFM map (41).
 fn not_pfm(bytes: &[u8]) -> String {
-    let picture = PICTURES.iter().find(|met| bytes.starts_with(met.begins)).map(|met| met.name);
     if bytes.is_empty() {
         return String::from("the file is empty");
     }
-    if bytes.starts_with(b"Pf") {
-        return String::from("it is a PFM file whose header is cut or malformed");
+    let pictures = PICTURES.iter().map(|met| (met.begins, met.name));
+    let mut known = NO_MAPS.iter().copied().chain(pictures).chain(NO_PICTURES.iter().copied());
+    match known.find(|(begins, _)| bytes.starts_with(begins)) {
+        Some((_, name)) => format!("it is {name}"),
+        None => String::from("it is no map of a format that is known here"),
     }
-    let other = || OTHERS.iter().find(|(begins, _)| bytes.starts_with(begins)).map(|(_, name)| *name);
-    let other = || if bytes.starts_with(b"P5") { Some("a PGM picture") } else { other() };
-    picture.or_else(other).map_or(String::from("it is no map"), |name| format!("it is {name}"))
 }
 
 /// The numbers and the length of a header: words between white space, in PGM with comments to the end of a line. The header was read by

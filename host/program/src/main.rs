@@ -45,14 +45,14 @@ fn settings_of(rig: Option<&str>, line: &Line) -> Result<Settings, Failure> {
 /// Says and writes what came of a deed. Text goes to standard error where an output is standard output.
 fn tell(done: &Done, to_standard_output: bool, quiet: bool) -> Result<(), String> {
     done.hints.iter().for_each(|hint| say(&format!("plombrisa: hint: {hint}")));
-    match () {
-        _ if quiet && !done.is_answer => Ok(()),
-        _ if to_standard_output => {
-            say(&done.text);
-            Ok(())
-        }
-        _ => print(&done.text),
+    if quiet && !done.is_answer {
+        return Ok(());
     }
+    if to_standard_output {
+        say(&done.text);
+        return Ok(());
+    }
+    print(&done.text)
 }
 
 fn perform(deed: &Deed, rig: Option<&str>, line: &Line, quiet: bool) -> Result<ExitCode, Failure> {

@@ -15,7 +15,10 @@ fn files_that_are_not_there_or_cannot_be_written() {
     fails(&["match", LEFT, RIGHT, "/nowhere/map.pfm"], &["/nowhere/map.pfm: cannot be written: "]);
     fails(&["match", LEFT, RIGHT, map, "/nowhere/preview.png"], &["/nowhere/preview.png: cannot be written: "]);
     fails(&["match", LEFT, RIGHT, text_of(&folder)], &["cannot be written: "]);
-    fails(&["match", LEFT, RIGHT, map, map], &["map.pfm: is named for two outputs"]);
+    let round_about = folder.join("../unwritable/map.pfm");
+    for twice in [map, text_of(&round_about)] {
+        fails(&["match", LEFT, RIGHT, map, twice], &["map.pfm: is named for two outputs"]);
+    }
     // tried before the work: a picture that is no picture is not looked at
     let bad = written("bad_beside.pgm", b"P2");
     fails(&["match", &bad, RIGHT, "/nowhere/map.pfm"], &["/nowhere/map.pfm: cannot be written: "]);
