@@ -2,6 +2,7 @@
 // specs/ has the words, proofs/ the laws. Here is the one answer that several crates give.
 
 // How many bytes a text takes or has taken, or the refusal.
+#![tactic(auto)]
 #[derive(Drop)]
 pub enum Written {
     Bytes(usize),

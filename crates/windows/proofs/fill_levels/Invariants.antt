@@ -1,0 +1,11 @@
+-- `windows::fill_levels` meets its contract: the table's rows, one after the other. Assumes nothing.
+use Prim.Native.Nat.{◌-◌}
+use Rattle.lists.specs.Rows.{level_at}
+use Rattle.windows.proofs.Tables.{TableInv}
+use Rattle.windows.proofs.fill_levels.Given as goal
+
+abbrev pub invariant-loop-y : goal.invariant-loop-y
+invariant-loop-y l = TableInv l.w l.h (level_at l.w l.pic) l.initial.table l.table l.y
+
+abbrev pub decreases-loop-y : goal.decreases-loop-y
+decreases-loop-y l = l.h - l.y
