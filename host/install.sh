@@ -27,7 +27,7 @@ need() {
 }
 
 check_sources() {
-    need "$proved" "rt staticlib plombrisa writes it"
+    need "$proved" "host/prove.sh plombrisa writes it"
     need "$program" "cargo build --release --offline, in host/, writes it"
     for file in "$man_page" "$sources/include/plombrisa.h" "$sources/include/plombrisa.c" "$sources/plombrisa.pc.in" \
         "$sources/python/plombrisa.py"; do

@@ -19,7 +19,7 @@ for tool in clang llvm-ar ld.lld; do
         "$work" "$kit/$on/toolchain/bin/$tool" > "$work/kit/$on/toolchain/bin/$tool"
     chmod +x "$work/kit/$on/toolchain/bin/$tool"
 done
-RATTLE_HOME=$work/kit rt staticlib plombrisa > "$work/log" 2>&1 || { cat "$work/log"; exit 1; }
+RATTLE_HOME=$work/kit host/prove.sh plombrisa > "$work/log" 2>&1 || { cat "$work/log"; exit 1; }
 
 "$kit/$on/toolchain/bin/clang" --target=aarch64-unknown-linux-gnu -Wno-override-module -O3 -fPIC -c -x ir "$work/module.bc" -o "$work/plombrisa.o" 2> "$work/log"
 rm -f "$work/target/staticlib/libplombrisa.a"

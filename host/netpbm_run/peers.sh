@@ -1,6 +1,6 @@
 #!/usr/bin/env bash
 # The library beside the programs that its files come from and go to: Debian's netpbm, and OpenCV where python3-opencv can be had.
-# To be run after `rt staticlib plombrisa`. It installs both, as root, where they are missing. The status is not 0 after a
+# To be run after `host/prove.sh plombrisa`. It installs both, as root, where they are missing. The status is not 0 after a
 # difference.
 #
 # - PGM files of pgmmake, pgmramp and pgmnoise, and files with every kind of gap in the header, are read with the levels that

@@ -1,4 +1,4 @@
-//! Links the proved library, which `rt staticlib plombrisa` writes to target/staticlib of the repository.
+//! Links the proved library, which `host/prove.sh plombrisa` writes to target/staticlib of the repository.
 use std::path::Path;
 
 fn main() {

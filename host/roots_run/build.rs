@@ -1,4 +1,4 @@
-//! Links the proved root, which `rt staticlib roots` writes to target/staticlib of the repository.
+//! Links the proved root, which `host/prove.sh roots` writes to target/staticlib of the repository.
 use std::path::Path;
 
 fn main() {

@@ -1,7 +1,7 @@
 #!/usr/bin/env bash
 # OpenCV's matchers as a vendor's box: the maps of StereoBM and StereoSGBM of some pairs, rounded to whole pixels, are checked by the
 # library and by the plain Rust, which must agree; the library's own block maps beside them must pass. Prints a table of what is wrong
-# with how many cells. To be run after `rt staticlib plombrisa`. It installs Debian's python3-opencv, as root, where it is missing.
+# with how many cells. To be run after `host/prove.sh plombrisa`. It installs Debian's python3-opencv, as root, where it is missing.
 # The status is not 0 after a difference.
 set -u
 cd "$(dirname "$0")" || exit 1

@@ -1,6 +1,7 @@
 // What several crates need of lists, of sums and of signed numbers: specs/ has the words, proofs/ the laws. Here is what they share
 // of code.
 #![tactic(auto)]
+
 ghost use Rattle.std.specs.Prelude.{◌≡◌, false, pos, ◌≤◌, length, replicate};
 ghost use Rattle.std.specs.Float.{fin};
 ghost use Rattle.lists.specs.Lists.{cleared};

@@ -3,6 +3,7 @@
 
 // How many bytes a text takes or has taken, or the refusal.
 #![tactic(auto)]
+
 #[derive(Drop)]
 pub enum Written {
     Bytes(usize),

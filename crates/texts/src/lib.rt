@@ -1,5 +1,6 @@
 // Bytes, digits and numbers put into a lent slice. A function puts its text into `out` from `at` on, and answers the place past it.
 #![tactic(auto)]
+
 ghost use Rattle.std.specs.Prelude.{◌≡◌, [], ◌∷◌, ◌+◌, ◌≤◌, ◌<◌, length};
 ghost use Rattle.lists.specs.Stores.{Wrote};
 ghost use Rattle.texts.specs.Digits.{digit_byte, digits, places_of, decimal_text};

@@ -152,7 +152,7 @@ fn fails_with(command: &mut Command, prefix: &Path, sentence: &str) {
 fn what_is_missing_is_named() {
     let program = program_file();
     for (file, remedy) in [
-        ("target/staticlib/libplombrisa.a", "rt staticlib plombrisa writes it"),
+        ("target/staticlib/libplombrisa.a", "host/prove.sh plombrisa writes it"),
         (program.as_str(), "cargo build --release --offline, in host/, writes it"),
         (MAN_PAGE, "it is part of the repository"),
         ("host/plombrisa/include/plombrisa.h", "it is part of the repository"),

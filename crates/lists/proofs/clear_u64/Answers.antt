@@ -1,5 +1,4 @@
 -- `lists::clear_u64` meets its contract. Assumes nothing.
-use Prim.Native.Nat.{◌-◌}
 use native.Mathlib.Omega.{arith}
 use borrow.Author.Rules.{rules}
 use Rattle.lists.proofs.Clearing.{clearing-none, clearing-more, clearing-done}

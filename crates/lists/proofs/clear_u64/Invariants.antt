@@ -1,5 +1,4 @@
 -- `lists::clear_u64` meets its contract. Assumes nothing.
-use Prim.Native.Nat.{◌-◌}
 use mathlib.Core.Path.{◌≡◌}
 use lib.ListN.{length}
 use Rattle.lists.proofs.Clearing.{Clearing}

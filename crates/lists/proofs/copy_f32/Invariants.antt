@@ -1,5 +1,4 @@
 -- `lists::copy_f32` meets its contract. Assumes nothing.
-use Prim.Native.Nat.{◌-◌}
 use mathlib.Core.Path.{◌≡◌}
 use lib.ListN.{length}
 use Rattle.lists.proofs.Copying.{Copying}

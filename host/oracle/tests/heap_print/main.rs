@@ -26,7 +26,7 @@ fn repository() -> PathBuf {
 
 fn program() -> PathBuf {
     let program = repository().join("target/bin/heap_print");
-    assert!(program.is_file(), "{} is not there: `rt check heap_print` makes it", program.display());
+    assert!(program.is_file(), "{} is not there: `host/prove.sh heap_print` makes it", program.display());
     program
 }
 
@@ -102,7 +102,7 @@ fn an_input_may_arrive_in_pieces() {
 #[test]
 fn the_manual_says_what_is_printed() {
     let manual = fs::read_to_string(repository().join("docs/USE.md")).expect("docs/USE.md");
-    let (_, behind) = manual.split_once("\n    rt check heap_print && ").expect("the command");
+    let (_, behind) = manual.split_once("\n    host/prove.sh heap_print && ").expect("the command");
     let (line, shown) = behind.split_once('\n').expect("a line");
     let ended = shell_line(line).current_dir(repository()).output().expect("a shell");
     let printed = String::from_utf8(ended.stdout).expect("text");

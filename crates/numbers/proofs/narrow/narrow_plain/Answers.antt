@@ -1,5 +1,5 @@
 -- `numbers::narrow::narrow_plain` meets its contract: proofs/Moderately.antt has what makes the size that it takes the right one. Assumes nothing.
-use Rattle.std.proofs.Common.{◌≡◌, ℕ, ◌+◌, ◌^◌, ◌<◌, T, sym, subst, ⊎_elim, arith, rules}
+use Rattle.std.proofs.Common.{◌≡◌, ℕ, ◌+◌, ◌^◌, ◌<◌, T, sym, subst, arith, rules}
 use lib.Ieee.{binary32, binary64, fits, of_bits, to_bits}
 use lib.Ieee.Bits.{to_bits-lt}
 use Rattle.numbers.specs.Narrow.{narrowed}
@@ -18,7 +18,7 @@ unfolding of_bits
 taken c =
     let start = c.before in
     elim c.if-x.branch [
-      then-x w ↦ rw w.size-is (taken-zero start.args.x (held start) w.if-x.true)
+      | then-x w ↦ rw w.size-is (taken-zero start.args.x (held start) w.if-x.true)
       | else-x w ↦ rw w.size-is (taken-within start.args.x (held start) start.requires w.if-x.false)
     ]
 

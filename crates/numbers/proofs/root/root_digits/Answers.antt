@@ -1,5 +1,5 @@
 -- `numbers::root::root_digits` meets its contract. The loop's invariant is `Part` of proofs/Squares.antt, and its measure the digits to come. Assumes nothing.
-use Rattle.std.proofs.Common.{◌≡◌, ℕ, ◌+◌, ◌-◌, ◌*◌, ◌/◌, ◌%◌, ◌^◌, ◌<◌, sym, subst, ⊎_elim, lt_of_lt_of_le, le_antisymm, arith, pow_mono, rules}
+use Rattle.std.proofs.Common.{◌≡◌, ℕ, ◌+◌, ◌*◌, ◌/◌, ◌%◌, ◌^◌, ◌<◌, sym, subst, lt_of_lt_of_le, le_antisymm, arith, pow_mono, rules}
 use Rattle.numbers.specs.Root.{RootWithRest}
 use Rattle.numbers.proofs.Squares.{Part, after-eight, turn-0, turn-1, whole_part}
 use Rattle.numbers.proofs.root.root_digits.Goals.{In-loop-taken, then-root-rest, else-root-rest}
@@ -58,7 +58,7 @@ loop-taken-preserved c =
     let v = at-loop.loop-taken in (
       let h = c.loop-taken-test.true in omega arith,
       elim c.if-root-rest.branch [
-        then-root-rest w ↦ moved m (v.left * 2 ^ 2 % 2 ^ 64) (v.taken + 1) w.root-is w.rest-is (turn-1 m v.left v.root v.rest v.taken v.invariant.1 w.if-root-rest.true)
+        | then-root-rest w ↦ moved m (v.left * 2 ^ 2 % 2 ^ 64) (v.taken + 1) w.root-is w.rest-is (turn-1 m v.left v.root v.rest v.taken v.invariant.1 w.if-root-rest.true)
         | else-root-rest w ↦ moved m (v.left * 2 ^ 2 % 2 ^ 64) (v.taken + 1) w.root-is w.rest-is (turn-0 m v.left v.root v.rest v.taken v.invariant.1 w.if-root-rest.false)
       ],
     )
