@@ -8,10 +8,10 @@ ghost use Rattle.heap_print.specs.Answer.{whole_room_cells, float_room_cells, op
 use heap_text::head::Request;
 use heap_text::plan::{Plan, plan_of};
 use heap_text::text;
-use libc::{STDIN_FILENO, STDOUT_FILENO};
 use maps::Number;
 use matching::match_block;
 use options::{BlockMatchOptions, Mode};
+use std::io::{self, Read, Write};
 
 // The longest good input is a line of 32 bytes and two pictures of 384; one byte more shows that an input is too long.
 const READ_MOST: usize = 801;
@@ -128,14 +128,29 @@ fn answer_reading(
     answer(&whole[..n], cells, whole_room, float_room, out)
 }
 
-// No contract says what is read; `io::read_full` stops where the array is full or the input ends.
-fn main() {
+// Reads until the buffer is full or the input ends, and gives how many bytes it put at the front.
+fn read_full<R: Read>(input: &mut R, buffer: &mut [u8]) -> io::Result<usize>
+    ensures { IfOk result (λ n. n ≤ length buffer.new) }
+{
+    let mut done: usize = 0;
+    while done < buffer.len() {
+        let n = input.read(&mut buffer[done..])?;
+        if n == 0 {
+            return Ok(done);
+        }
+        done += n;
+    }
+    Ok(done)
+}
+
+// No contract says what is read; `read_full` stops where the array is full or the input ends.
+fn main(rt: HostRuntime) -> io::Result<()> {
     let mut input = [0u8; READ_MOST];
     let mut cells = [0.0f32; 384];
     let mut whole_room = [0u64; 2125];
     let mut float_room = [0.0f32; 9600];
     let mut out = [0u8; 3475];
-    let n = io::read_full(STDIN_FILENO, &mut input);
+    let n = read_full(&mut rt.stdin(), &mut input)?;
     let m = answer_reading(
         &input,
         n,
@@ -144,5 +159,5 @@ fn main() {
         &mut float_room,
         &mut out,
     );
-    io::write_all(STDOUT_FILENO, &out[..m]);
+    rt.stdout().write_all(&out[..m])
 }

@@ -2,12 +2,15 @@
 // cells differ. A map that is refused, or a file that is cut, counts as a difference.
 ghost use Rattle.std.specs.Prelude.{◌+◌, ◌*◌, ◌≤◌, ◌<◌, length};
 
-use libc::STDOUT_FILENO;
 use matching::match_block;
 use options::{BlockMatchOptions, Mode};
+use std::{fs, io};
 
 // The bytes of a case before its pictures.
 const HEAD: usize = 28;
+
+// The bytes of a file that are read.
+const READ_MOST: usize = 65536;
 
 // How far the replay has come.
 #[derive(Drop)]
@@ -199,21 +202,15 @@ fn replay(bytes: &[u8], cells: &mut [f32], whole: &mut [u64], float: &mut [f32])
     tally
 }
 
-fn print(n: usize, text: &[u8]) {
-    io::print_decimal(STDOUT_FILENO, n as u64);
-    io::write_all(STDOUT_FILENO, text);
-}
-
-fn main() {
-    let mut bytes = io::large_buffer();
+fn main(rt: HostRuntime) -> io::Result<()> {
+    let bytes = fs::read(&rt, "answers.bin")?;
+    let n = bytes.len().min(READ_MOST);
     let mut cells = [0.0f32; 384];
     let mut whole = [0u64; 2125];
     let mut float = [0.0f32; 9600];
-    let file = os::open_read(b"answers.bin");
-    let n = io::read_full(file, &mut bytes);
-    libc::close(file);
     let tally = replay(&bytes[..n], &mut cells, &mut whole, &mut float);
-    print(tally.maps, b" maps of the Rust replayed, ");
-    print(tally.cells, b" cells compared, ");
-    print(tally.differ, b" differ\n");
+    let maps = tally.maps;
+    let compared = tally.cells;
+    let differ = tally.differ;
+    println!(rt; "{maps} maps of the Rust replayed, {compared} cells compared, {differ} differ")
 }
