@@ -1,5 +1,7 @@
 // What a match or a raw volume asks for and lends, and the numbers given back (document 01, "Numbers given back"), in the table's
 // order; 0 is none.
+#![tactic(auto)]
+
 ghost use Rattle.std.specs.Prelude.{◌≡◌};
 ghost use Rattle.options.specs.Limits.{is_penalty};
 ghost use Rattle.refusals.specs.Answered.{first_of};
@@ -12,14 +14,14 @@ use options::{
 };
 
 // What a call's output is to hold: the raw volume, or a map.
-#[derive(Drop)]
+#[derive(Clone, Copy)]
 pub enum Output {
     Volume,
     Map,
 }
 
 // What a call asks for and what it lends.
-#[derive(Drop)]
+#[derive(Clone, Copy)]
 pub struct Call {
     pub output: Output,
     // Sizes and byte counts of the two pictures.

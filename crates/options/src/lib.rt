@@ -75,7 +75,7 @@ pub fn is_inner(w: usize, h: usize, r: usize, x: usize, y: usize) -> bool
 }
 
 // A raw cost: blank, or a correlation.
-#[derive(Drop)]
+#[derive(Clone, Copy)]
 pub enum RawCost {
     Blank,
     Corr(f32),
@@ -105,14 +105,14 @@ impl RawCost {
 }
 
 // Which picture is the reference.
-#[derive(Drop)]
+#[derive(Clone, Copy)]
 pub enum Side {
     Left,
     Right,
 }
 
 // How a disparity is chosen: by the raw costs themselves, or by costs added up along eight paths.
-#[derive(Drop)]
+#[derive(Clone, Copy)]
 pub enum Mode {
     Block,
     SemiGlobal,
@@ -142,7 +142,7 @@ impl Mode {
 }
 
 // The options of a match.
-#[derive(Drop)]
+#[derive(Clone, Copy)]
 pub struct BlockMatchOptions {
     // The first disparity, in pixels, and how many are searched.
     pub min_disparity: i32,

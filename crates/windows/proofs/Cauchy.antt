@@ -6,7 +6,7 @@ use native.Mathlib.Nat.{mul-add, add-mul, mul_comm, mul_assoc, mul_left_comm, mu
 use native.Mathlib.Nat.{mul-lt-mul_of_pos_left, eq-zero-or-pos, mul-sub, mul-le-mul_left, mul_right_comm, add-sub_of_le}
 use native.Mathlib.Omega.{arith}
 use borrow.Author.Tests.{lt-ltb, le-ltb}
-use lib.IntN.{ℤ, pos, negsuc, nat_abs, neg_ℤ, sub_ℕ, ◌-ℤ◌, ◌*ℤ◌, zero-*ℤ}
+use lib.IntN.{pos, negsuc, nat_abs, neg_ℤ, sub_ℕ, ◌-ℤ◌, ◌*ℤ◌, zero-*ℤ}
 use Rattle.lists.proofs.Tests.{lt-or-le}
 use Rattle.lists.specs.Sums.{sum_to}
 use Rattle.windows.specs.Moments.{var_of, cov_of}

@@ -1,6 +1,7 @@
 // Summed-area tables of a picture, the sum over a window from a table's four corners, and the variance of a
 // window, all as whole numbers (document 01, "Window sums").
 #![tactic(auto)]
+
 ghost use Rattle.std.specs.Prelude.{◌≡◌, ◌+◌, ◌*◌, ◌^◌, ◌≤◌, ◌<◌, min, nat_abs, length, get_or, set};
 ghost use Rattle.options.specs.Limits.{side_most, shift_most};
 ghost use Rattle.lists.specs.Rows.{level_at};

@@ -1,18 +1,18 @@
 -- `windows::add_levels` meets its contract: the row's recurrence at the levels. Assumes nothing.
-use Prim.Native.Nat.{ℕ, ◌≤◌, ◌-◌}
-use mathlib.Core.Path.{refl, ◌∙◌}
+use Prim.Native.Nat.{ℕ, ◌≤◌}
+use mathlib.Core.Path.{refl}
 use native.Mathlib.Omega.{arith}
 use Rattle.windows.specs.Table.{level_in}
-use Rattle.windows.proofs.Rows.{row-start, row-length, row_put, row-sum, row-again, row_done}
+use Rattle.windows.proofs.Rows.{row-start, row_put, row-sum, row-again, row_done}
 use Rattle.windows.proofs.add_levels.Goals.{At-loop-x}
 use Rattle.windows.proofs.add_levels.Goals as goal
 
 -- a level is at most 255
 small : (c : At-loop-x) (x : ℕ) → level_in c.args.levels.now x ≤ 65025
-small c x = omega (arith, c.shared_slice_known-1.given x)
+small c x = omega (arith, c.type_inv.levels x)
 
 pub loop-x-init : goal.loop-x-init
-loop-x-init c = row-start _ _ _ c.requires (λ x. omega (arith, c.shared_slice_known-1.given x))
+loop-x-init c = row-start _ _ _ c.requires (λ x. omega (arith, c.type_inv.levels x))
 
 pub put_below-requires : goal.put_below-requires
 put_below-requires c =
@@ -34,11 +34,6 @@ pub put_below-requires-2 : goal.put_below-requires-2
 put_below-requires-2 c =
     let at = c in
     row_put _ _ _ at.requires (small (goal.at.put_below-requires-2 c).At-loop-x) _ _ _ at.loop-x.invariant
-
--- GONE same_length : tie.Need-same-length invariant-loop decreases-loop
--- same_length c =
---     let at = c.before.before.before.before.before in
---     c.before.before.put-below2.auto.0 ∙ row-length _ _ _ at.before.before.before.requires (small at) _ _ _ at.loop.invariant
 
 pub returns : goal.returns
 returns c =

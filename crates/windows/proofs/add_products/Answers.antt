@@ -1,5 +1,5 @@
 -- `windows::add_products` meets its contract: after i turns the part's first i cells are filled, and `run` is the sum of the first i products. Assumes nothing.
-use Prim.Native.Nat.{◌-◌, ◌≤◌, ◌*◌}
+use Prim.Native.Nat.{◌≤◌, ◌*◌}
 use mathlib.Core.Path.{refl, ap, ◌∙◌}
 use native.Mathlib.Nat.{le_antisymm}
 use native.Mathlib.Omega.{arith}
@@ -7,7 +7,7 @@ use borrow.Author.Rules.{rules}
 use lib.ListN.{length}
 use Rattle.lists.specs.Sums.{sum_to}
 use Rattle.windows.specs.Parts.{product_in}
-use Rattle.windows.proofs.Parts.{below-start, below_length, below_put, below_next, below_end, products-most, product-most, sum-next}
+use Rattle.windows.proofs.Parts.{below-start, below_put, below_next, below_end, products-most, product-most, sum-next}
 use Rattle.windows.proofs.add_products.Goals.{At-loop-i}
 use Rattle.windows.proofs.add_products.Goals as goal
 
@@ -17,16 +17,16 @@ sum-most c =
     let args = c.args in
     rw c.loop-i.invariant.2
     (products-most args.a.now args.b.now
-    (λ i. omega (arith, c.shared_slice_known-1.given i))
-    (λ i. omega (arith, c.shared_slice_known-2-1.given i))
+    (λ i. omega (arith, c.type_inv.a i))
+    (λ i. omega (arith, c.type_inv.b i))
     c.loop-i.i)
 
 next-most : (c : At-loop-i) → product_in c.args.a.now c.args.b.now c.loop-i.i ≤ 65025
 next-most c =
     let args = c.args in
     product-most args.a.now args.b.now
-    (λ i. omega (arith, c.shared_slice_known-1.given i))
-    (λ i. omega (arith, c.shared_slice_known-2-1.given i))
+    (λ i. omega (arith, c.type_inv.a i))
+    (λ i. omega (arith, c.type_inv.b i))
     c.loop-i.i
 
 pub loop-i-init : goal.loop-i-init
@@ -44,9 +44,6 @@ put_below-requires c =
 pub overflow_add-run : goal.overflow_add-run
 overflow_add-run c = let at = c in omega (arith, c.product-run.ensures, next-most (goal.at.overflow_add-run c).At-loop-i, sum-most (goal.at.overflow_add-run c).At-loop-i, at.loop-i.invariant.0, at.requires.2)
 
--- GONE add-i : tie.Need-overflow-add-i invariant-loop decreases-loop
--- add-i c = omega (arith, (head c).loop.invariant)
-
 pub loop-i-smaller : goal.loop-i-smaller
 loop-i-smaller c = omega (arith, c.loop-i.invariant)
 
@@ -59,9 +56,6 @@ loop-i-preserved c =
       sum-next _ _ _ _ at.loop-i.invariant.2 c.product-run.ensures,
       below_next at.requires.0 _ _ at.loop-i.invariant.3 _ _ (omega (arith, at.loop-i.invariant)) at.loop-i.invariant.2 c.put_below.ensures,
     )
-
--- GONE same_length : tie.Need-same-length invariant-loop decreases-loop
--- same_length c = let at = c.before in below_length (entry at).requires.0 _ _ at.loop.invariant.3 at.loop.invariant.0
 
 pub returns : goal.returns
 returns c =

@@ -1,5 +1,5 @@
 -- `windows::add_products` meets its contract: after i turns the part's first i cells are filled, and `run` is the sum of the first i products. Assumes nothing.
-use Prim.Native.Nat.{◌-◌, ◌≤◌}
+use Prim.Native.Nat.{◌≤◌}
 use mathlib.Core.Path.{◌≡◌}
 use lib.ListN.{length}
 use Rattle.lists.specs.Sums.{sum_to}

@@ -1,9 +1,8 @@
 -- `windows::add_run` meets its contract: after i turns the part's first i cells are filled. Assumes nothing.
-use Prim.Native.Nat.{◌-◌}
 use mathlib.Core.Path.{refl}
 use native.Mathlib.Omega.{arith}
 use borrow.Author.Rules.{rules}
-use Rattle.windows.proofs.Parts.{below-start, below_length, below_put, below_next, below_end}
+use Rattle.windows.proofs.Parts.{below-start, below_put, below_next, below_end}
 use Rattle.windows.proofs.add_run.Goals as goal
 
 pub loop-i-init : goal.loop-i-init

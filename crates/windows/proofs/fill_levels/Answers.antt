@@ -1,6 +1,6 @@
 -- `windows::fill_levels` meets its contract: the table's rows, one after the other. Assumes nothing.
-use Prim.Native.Nat.{ℕ, ◌≤◌, ◌-◌}
-use mathlib.Core.Path.{sym, ap, ◌∙◌}
+use Prim.Native.Nat.{ℕ, ◌≤◌}
+use mathlib.Core.Path.{ap}
 use native.Mathlib.Omega.{arith}
 use Rattle.lists.specs.Rows.{level_at}
 use Rattle.windows.specs.Table.{level_in}
@@ -13,7 +13,7 @@ small a x y =
     omega (
       arith,
       level-small a.args.w a.args.pic.now
-          (λ i. omega (arith, a.shared_slice_known-1.given i)) x y,
+          (λ i. omega (arith, a.type_inv.pic i)) x y,
     )
 
 here : (c : In-loop-y) → Spots c.args.w c.args.h c.loop-y.y
@@ -21,9 +21,6 @@ here c = spots _ _ _ c.requires.w-most c.requires.h-most c.loop-y-test.true
 
 pub slice_bounds-clear_u64-end : goal.slice_bounds-clear_u64-end
 slice_bounds-clear_u64-end c = first_fits c.requires
-
-pub slice_bounds-clear_u64-end-2 : goal.slice_bounds-clear_u64-end-2
-slice_bounds-clear_u64-end-2 c = sym (first-row c.requires)
 
 pub loop-y-init : goal.loop-y-init
 loop-y-init c =
@@ -45,27 +42,6 @@ overflow_mul-first c = omega (arith, here c)
 pub overflow_add-last : goal.overflow_add-last
 overflow_add-last c = omega (arith, here c)
 
-pub offset_bounds-table-top : goal.offset_bounds-table-top
-offset_bounds-table-top c = omega (arith, here c)
-
-pub slice_bounds-add_levels-count : goal.slice_bounds-add_levels-count
-slice_bounds-add_levels-count c = omega (arith, here c)
-
-pub slice_bounds-add_levels-start : goal.slice_bounds-add_levels-start
-slice_bounds-add_levels-start c = omega (arith, here c)
-
-pub slice_bounds-add_levels-end : goal.slice_bounds-add_levels-end
-slice_bounds-add_levels-end c = omega (arith, here c)
-
-pub slice_bounds-add_levels-count-in-loop-y : goal.slice_bounds-add_levels-count-in-loop-y
-slice_bounds-add_levels-count-in-loop-y c = omega (arith, here (goal.at.slice_bounds-add_levels-count-in-loop-y c).In-loop-y)
-
-pub slice_bounds-add_levels-start-in-loop-y : goal.slice_bounds-add_levels-start-in-loop-y
-slice_bounds-add_levels-start-in-loop-y c = omega (arith, here (goal.at.slice_bounds-add_levels-start-in-loop-y c).In-loop-y)
-
-pub slice_bounds-add_levels-end-in-loop-y : goal.slice_bounds-add_levels-end-in-loop-y
-slice_bounds-add_levels-end-in-loop-y c = omega (arith, here (goal.at.slice_bounds-add_levels-end-in-loop-y c).In-loop-y)
-
 pub add_levels-requires : goal.add_levels-requires
 add_levels-requires c =
     let a = c in
@@ -79,9 +55,6 @@ loop-y-preserved c =
     let p = a.requires in
     table-again _ _ _ (small (goal.at.loop-y-preserved c).At-loop-y) _ p.w-most p.h-most _ _ a.loop-y.invariant t.loop-y-test.true
     _ _ _ p.bytes (λ x. ap (λ r. level_in r x) (lent_row a.args.w a.loop-y.y a.args.pic.now)) c.add_levels.ensures
-
--- GONE same_length : tie.Need-same-length invariant-loop decreases-loop
--- same_length c = c.before.loop.invariant.size ∙ sym (entry c.before).pre.cells
 
 pub returns : goal.returns
 returns c = table_done _ _ _ _ _ _ c.loop-y.invariant c.loop-y-test.false
