@@ -1,5 +1,7 @@
 // A disparity map over cells that the caller owns: one cell, whether it is valid, how many are, the least and the greatest, and the
-// cover figure. The covered functions take the sizes and the slice; `MapView` holds them together, and its functions take it apart.
+// cover figure. The functions take the sizes and the slice; `MapView` holds them together, and its functions take it apart.
+#![tactic(auto)]
+
 ghost use Rattle.std.specs.Prelude.{◌≡◌, cond, length};
 ghost use Rattle.std.specs.Float.Ieee.Scale.{finite};
 ghost use Rattle.refusals.specs.Answered.{first_of};

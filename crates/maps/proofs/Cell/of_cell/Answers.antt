@@ -6,8 +6,7 @@ use lib.Ieee.{Float, nan, inf, fin, ne, is_nan}
 use lib.Ieee.Compare.{differs_from_itself, nan_differs}
 use Rattle.maps.specs.declared.Cell.TheVariants.{Mark, At}
 use Rattle.maps.specs.Cells.{cell_of}
-use Rattle.maps.proofs.Cell.of_cell.Statement.{statement}
-use Rattle.maps.proofs.Cell.of_cell.Tie as tie
+use Rattle.maps.proofs.Cell.of_cell.Goals as goal
 
 mark : (v : Float) → ne v v ≡ true → Mark ≡ cell_of v
 unfolding is_nan
@@ -19,11 +18,8 @@ number nan h = absurd (true≢false (sym nan_differs ∙ h))
 number (inf s) h = refl
 number (fin s m e) h = refl
 
-returns : tie.Need-returns
-returns c = mark c.before.args.v c.if1.true
+pub returns-then-v : goal.returns-then-v
+returns-then-v c = mark c.args.v c.if-v.true
 
-returns-2 : tie.Need-returns-2
-returns-2 c = number c.before.args.v c.if1.false
-
-pub of-cell-spec : {M : Type 1} → statement M
-of-cell-spec = tie.close (tie.spec returns returns-2)
+pub returns-else-v : goal.returns-else-v
+returns-else-v c = number c.args.v c.if-v.false
