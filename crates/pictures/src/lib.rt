@@ -1,4 +1,6 @@
 // The grey picture: row-major bytes, read at a pixel and between pixels, with the Rust's clamping and its order of products and sums.
+#![tactic(auto)]
+
 ghost use Rattle.std.specs.Prelude.{◌≡◌, ◌+◌, ◌*◌, ◌<◌, true, false, length, is_nan};
 ghost use Rattle.lists.specs.Rows.{level_at};
 ghost use Rattle.options.specs.Limits.{is_side};
