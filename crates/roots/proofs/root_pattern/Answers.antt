@@ -6,13 +6,12 @@ use native.Mathlib.Omega.{arith}
 use lib.Dec.{T}
 use lib.Ieee.{Float, binary64, to_bits, is_nan}
 use borrow.Author.Tests.{le-leb, lt-leb}
-use borrow.Author.Rules.{rules}
 use Rattle.numbers.specs.Root.{root_of, places}
 use Rattle.numbers.proofs.Patterns.{no_nan}
 use Rattle.numbers.proofs.Rooted.{digits, root-value}
 use Rattle.roots.specs.Pattern.{root_pattern}
-use Rattle.roots.proofs.root_pattern.Statement.{statement}
-use Rattle.roots.proofs.root_pattern.Tie as tie
+use Rattle.roots.proofs.root_pattern.Goals.{After-root}
+use Rattle.roots.proofs.root_pattern.Goals as goal
 
 pattern-of-zero : root_pattern 0 ≡ 0
 unfolding root_pattern
@@ -26,29 +25,23 @@ pattern-between : (n : ℕ) → 1 ≤ n → n ≤ 2 ^ 53 → root_pattern n ≡ 
 unfolding root_pattern
 pattern-between n least most = rw (le-leb 1 n least, le-leb n (2 ^ 53) most)
 
-returns : tie.Need-returns
-returns c = rw c.if1.true (sym pattern-of-zero)
+pub returns-then-n-eq0 : goal.returns-then-n-eq0
+returns-then-n-eq0 c = rw c.if-n-eq0.true (sym pattern-of-zero)
 
-returns-2 : tie.Need-returns-2
-returns-2 c = sym (pattern-above c.before.before.args.n c.if2.true)
-
-root-requires : tie.Need-root-requires
-root-requires c κs = search rules
+pub returns-then-n-gt9007199254740992 : goal.returns-then-n-gt9007199254740992
+returns-then-n-gt9007199254740992 c = sym (pattern-above c.args.n c.if-n-gt9007199254740992.true)
 
 -- both tests have let n through
-least : (c : tie.After-root) → 1 ≤ c.before.before.before.args.n
-least c = omega (arith, c.before.before.if1.false)
+least : (c : After-root) → 1 ≤ c.args.n
+least c = omega (arith, c.if-n-eq0.false)
 
-most : (c : tie.After-root) → c.before.before.before.args.n ≤ 2 ^ 53
-most c = c.before.if2.false
+most : (c : After-root) → c.args.n ≤ 2 ^ 53
+most c = c.if-n-gt9007199254740992.false
 
-float-to-bits-result : tie.Need-float-to-bits-result
-float-to-bits-result c =
-    let n = c.before.before.before.args.n in
+pub float_to_bits-result : goal.float_to_bits-result
+float_to_bits-result c =
+    let n = c.args.n in
     subst (λ (x : Float). T (not (is_nan x))) (sym c.root.ensures) (no_nan (root_of n) false (digits n) (2 ^ places n) (root-value n (least c) (most c)))
 
-returns-3 : tie.Need-returns-3
-returns-3 c = ap (to_bits binary64) c.root.ensures ∙ sym (pattern-between c.before.before.before.args.n (least c) (most c))
-
-pub root-pattern-spec : {M : Type 1} → statement M
-root-pattern-spec = tie.close (tie.spec returns returns-2 root-requires float-to-bits-result returns-3)
+pub returns : goal.returns
+returns c = ap (to_bits binary64) c.root.ensures ∙ sym (pattern-between c.args.n (least c) (most c))
