@@ -15,7 +15,7 @@ pub enum Place {
 }
 
 // What a path depends on: the picture's size, the disparity count, the columns and rows a step, and the penalties.
-#[derive(Drop)]
+#[derive(Clone, Copy)]
 pub struct Walk {
     pub w: usize,
     pub h: usize,

@@ -1,5 +1,6 @@
 // The root by itself, for the run that holds it to the processor's. It is not delivered.
 #![tactic(auto)]
+
 ghost use Rattle.std.specs.Prelude.{◌≡◌};
 ghost use Rattle.roots.specs.Pattern.{root_pattern};
 
