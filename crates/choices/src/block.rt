@@ -25,7 +25,7 @@ pub enum Best {
 }
 
 // What rejects a choice. A NaN rejects nothing.
-#[derive(Drop)]
+#[derive(Clone, Copy)]
 pub struct Gates {
     pub min_correlation: f32,
     pub uniqueness_ratio: f32,
@@ -39,7 +39,7 @@ pub enum Seen {
 }
 
 // Row y of a map of h rows of w cells, and whether the volume is the other picture's.
-#[derive(Drop)]
+#[derive(Clone, Copy)]
 pub struct Row {
     pub w: usize,
     pub h: usize,

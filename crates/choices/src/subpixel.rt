@@ -6,7 +6,7 @@ ghost use Rattle.choices.specs.Subpixel.{disparity, has_sides, refined};
 use numbers::plain::{is_finite, magnitude};
 
 // What is searched: `count` disparities from `first`, and whether the best is refined.
-#[derive(Drop)]
+#[derive(Clone, Copy)]
 pub struct Search {
     pub first: i32,
     pub count: usize,

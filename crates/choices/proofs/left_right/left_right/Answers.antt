@@ -1,0 +1,30 @@
+-- `choices::left_right::left_right` meets its contract. Assumes nothing.
+use Rattle.std.proofs.Common.{◌≡◌, ◌<◌, length, refl, ◌∙◌, le_refl, arith, length-set, rules}
+use lib.Ieee.{nan}
+use Rattle.choices.specs.LeftRight.{left_right}
+use Rattle.lists.specs.Lists.{list_of}
+use Rattle.lists.proofs.Lists.{filled-rest, filled_next, filled-end}
+use Rattle.choices.proofs.left_right.left_right.Invariants.{at-pixel}
+use Rattle.choices.proofs.left_right.left_right.Goals as goal
+
+pub loop-p-init : goal.loop-p-init
+unfolding list_of
+loop-p-init c = (search rules, refl, refl)
+
+pub loop-p-preserved : goal.loop-p-preserved
+loop-p-preserved c =
+    let loop = c.loop-p in
+    let inside : loop.p < length c.args.out.now = omega arith in (
+      omega arith,
+      simp length-set loop.invariant.1,
+      rw (c.tested_cell.ensures, loop.invariant.2, filled-rest _ (at-pixel _ _ _ _) _ _ nan (le_refl _)) (filled_next _ _ _ _ inside refl),
+    )
+
+pub shape_of-out : goal.shape_of-out
+shape_of-out c = c.loop-p.invariant.1
+
+pub returns : goal.returns
+unfolding left_right
+returns c =
+    let past : c.loop-p.p ≡ length c.args.out.now = omega arith in
+    c.loop-p.invariant.2 ∙ filled-end _ _ _ _ past refl
