@@ -2,7 +2,7 @@
 use Rattle.std.proofs.Common.{◌≡◌, ℕ, zero, suc, ◌+◌, ◌*◌, ◌/◌, ◌%◌, ◌^◌, ◌<◌, ◌≤◌, Bool, true, false, cond, not, ◌&&◌, T, eqb, ltb, leb, ℤ, pos, negsuc, nat_abs, sym, refl, ap, ◌∙◌, subst, arith, le→leb, lt→ltb, leb→le, ltb-true, lt-ltb, eqb-true, leb-true}
 use mathlib.Core.Bool.{false≢true}
 use borrow.Author.Tests.{eqb-false}
-use lib.Ieee.{Float, nan, inf, fin, binary32, up, down, odd, whole, in_signed, in_float, to_signed, of_int, fits, to_bits, of_bits}
+use lib.Ieee.{Float, nan, inf, fin, binary32, up, down, whole, in_signed, in_float, to_signed, of_int, fits, to_bits, of_bits}
 use lib.Ieee.Fits.{and_i, and_l, and_r, nan-fits, of_int-fits}
 use lib.Ieee.Scale.{finite}
 use lib.Ieee.Back.{positive_back, negative_back, Float-back_signed}

@@ -220,6 +220,7 @@ FromMost zero s t = ⊥
 FromMost (suc more) s t = From more s t
 
 from_next : (most b : ℕ) (s : List ℕ) (u t : Taken) → 128 ≤ b → b < 256 → FromMost most s u → above (b - 128) (is u) ≡ is t → From most (b ∷ s) t
+from_next zero b s u t large byte from = elim from [ ]
 from_next (suc more) b s u t large byte from = go (ltb 0 u.number) refl
   where
     go : (some : Bool) → ltb 0 u.number ≡ some → cond some (is (record { number = b - 128 + 128 * u.number; rest = u.rest })) (refused 34) ≡ is t → From (suc more) (b ∷ s) t

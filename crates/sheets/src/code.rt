@@ -9,7 +9,7 @@ use maps::Cell;
 use numbers::plain::{is_finite, magnitude};
 
 // What a sheet holds: whole disparities, or any numbers by their bits.
-#[derive(Drop)]
+#[derive(Clone, Copy)]
 pub enum Kind {
     Whole,
     Exact,

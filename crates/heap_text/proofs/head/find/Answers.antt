@@ -9,14 +9,10 @@ use Rattle.heap_text.proofs.Words.{before_here, before_more}
 use Rattle.heap_text.proofs.head.find.Goals as goal
 
 pub returns-then-s-i : goal.returns-then-s-i
-returns-then-s-i c =
-    let l = c in
-    omega (arith, ap length (before_here l.args.stop l.args.s.now l.loop-i.i c.loop-i-test.true c.if-s-i.true))
+returns-then-s-i c = omega (arith, ap length (before_here c.args.stop c.args.s.now c.loop-i.i c.loop-i-test.true c.if-s-i.true))
 
 pub loop-i-preserved : goal.loop-i-preserved
-loop-i-preserved c =
-    let l = c in
-    omega (arith, ap length (before_more l.args.stop l.args.s.now l.loop-i.i c.loop-i-test.true c.if-s-i.false))
+loop-i-preserved c = omega (arith, ap length (before_more c.args.stop c.args.s.now c.loop-i.i c.loop-i-test.true c.if-s-i.false))
 
 pub returns : goal.returns
 returns c =

@@ -13,16 +13,14 @@ returns-then-s-end c =
 
 pub returns-in-Is : goal.returns-in-Is
 returns-in-Is c =
-    let b = c in
-    let a = b.args in
-    ap (λ (n : Number). field_with n (b.find-end.result + 1)) (sym c.in-Is.is)
-    ∙ field-closed a.s.now a.at a.most a.stop b.find-end.result b.find-end.ensures b.if-s-end.false
+    let a = c.args in
+    ap (λ (n : Number). field_with n (c.find-end.result + 1)) (sym c.in-Is.is)
+    ∙ field-closed a.s.now a.at a.most a.stop c.find-end.result c.find-end.ensures c.if-s-end.false
     c.read_number.result c.read_number.ensures
 
 pub returns-in-Wrong : goal.returns-in-Wrong
 returns-in-Wrong c =
-    let b = c in
-    let a = b.args in
-    ap (λ (n : Number). field_with n (b.find-end.result + 1)) (sym c.in-Wrong.is)
-    ∙ field-closed a.s.now a.at a.most a.stop b.find-end.result b.find-end.ensures b.if-s-end.false
+    let a = c.args in
+    ap (λ (n : Number). field_with n (c.find-end.result + 1)) (sym c.in-Wrong.is)
+    ∙ field-closed a.s.now a.at a.most a.stop c.find-end.result c.find-end.ensures c.if-s-end.false
     c.read_number.result c.read_number.ensures

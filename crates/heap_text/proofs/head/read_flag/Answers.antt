@@ -7,15 +7,13 @@ use Rattle.heap_text.proofs.head.read_flag.Goals as goal
 pub returns-then-value-le1 : goal.returns-then-value-le1
 unfolding flag_at
 returns-then-value-le1 c =
-    let b = c in
-    let a = b.args in
-    sym (ap flag_with (sym b.read_field.ensures ∙ b.in-Value.is) ∙ simp (le-leb b.in-Value.value 1 c.if-value-le1.true))
+    let a = c.args in
+    sym (ap flag_with (sym c.read_field.ensures ∙ c.in-Value.is) ∙ simp (le-leb c.in-Value.value 1 c.if-value-le1.true))
 
 pub returns-else-value-le1 : goal.returns-else-value-le1
 unfolding flag_at
 returns-else-value-le1 c =
-    let b = c in
-    sym (ap flag_with (sym b.read_field.ensures ∙ b.in-Value.is) ∙ simp (lt-leb b.in-Value.value 1 c.if-value-le1.false))
+    sym (ap flag_with (sym c.read_field.ensures ∙ c.in-Value.is) ∙ simp (lt-leb c.in-Value.value 1 c.if-value-le1.false))
 
 pub returns-in-Bad : goal.returns-in-Bad
 unfolding flag_at

@@ -24,17 +24,15 @@ loop-i-init c = (search rules, search rules, refl, refl)
 
 pub returns-then-b-lt48 : goal.returns-then-b-lt48
 returns-then-b-lt48 c =
-    let l = c in
-    let a = l.args in
+    let a = c.args in
     number-wrong a.word.now a.most (omega arith) (omega arith)
-    (sym l.loop-i.invariant.2 ∙ digits_low a.word.now l.loop-i.i c.loop-i-test.true c.if-b-lt48.true)
+    (sym c.loop-i.invariant.2 ∙ digits_low a.word.now c.loop-i.i c.loop-i-test.true c.if-b-lt48.true)
 
 pub returns-then-b-gt57 : goal.returns-then-b-gt57
 returns-then-b-gt57 c =
-    let l = c in
-    let a = l.args in
+    let a = c.args in
     number-wrong a.word.now a.most (omega arith) (omega arith)
-    (sym l.loop-i.invariant.2 ∙ digits-high a.word.now l.loop-i.i c.loop-i-test.true c.if-b-lt48.false c.if-b-gt57.true)
+    (sym c.loop-i.invariant.2 ∙ digits-high a.word.now c.loop-i.i c.loop-i-test.true c.if-b-lt48.false c.if-b-gt57.true)
 
 small : (c : Else-b-gt57) → c.loop-i.value < 1000
 small c =
@@ -50,19 +48,17 @@ overflow_add-value c = omega (arith, small c)
 
 pub loop-i-preserved : goal.loop-i-preserved
 loop-i-preserved c =
-    let l = c in
-    let w = l.args.word.now in
+    let w = c.args.word.now in
     let t = c.loop-i-test.true in (
       omega arith,
       rw add-one (rw pow-suc (omega arith)),
-      sym (digits_more w l.loop-i.i t c.if-b-lt48.false c.if-b-gt57.false) ∙ l.loop-i.invariant.2,
-      sym (decimal-more l.loop-i.value w l.loop-i.i t) ∙ l.loop-i.invariant.3,
+      sym (digits_more w c.loop-i.i t c.if-b-lt48.false c.if-b-gt57.false) ∙ c.loop-i.invariant.2,
+      sym (decimal-more c.loop-i.value w c.loop-i.i t) ∙ c.loop-i.invariant.3,
     )
 
 pub returns : goal.returns
 returns c =
-    let l = c in
-    let a = l.args in
-    let e : drop l.loop-i.i a.word.now ≡ [] = drop_of_length-le a.word.now c.loop-i-test.false in
+    let a = c.args in
+    let e : drop c.loop-i.i a.word.now ≡ [] = drop_of_length-le a.word.now c.loop-i-test.false in
     number-right a.word.now a.most (omega arith) (omega arith)
-    (sym l.loop-i.invariant.2 ∙ ap all_digits e) l.loop-i.value (sym (ap (decimal_from l.loop-i.value) e) ∙ l.loop-i.invariant.3)
+    (sym c.loop-i.invariant.2 ∙ ap all_digits e) c.loop-i.value (sym (ap (decimal_from c.loop-i.value) e) ∙ c.loop-i.invariant.3)

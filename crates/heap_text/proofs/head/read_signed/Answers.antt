@@ -10,15 +10,13 @@ use Rattle.heap_text.proofs.head.read_signed.Goals as goal
 -- the number that was read is small
 below : (c : In-Value) → c.in-Value.value < 10000
 below c =
-    let r = c in
-    let a = r.args in
-    (field-bounds a.s.now (a.at + 1) 4 32 c.in-Value.value c.in-Value.next (sym r.read_field.ensures ∙ c.in-Value.is)).small
+    let a = c.args in
+    (field-bounds a.s.now (a.at + 1) 4 32 c.in-Value.value c.in-Value.next (sym c.read_field.ensures ∙ c.in-Value.is)).small
 
 below-2 : (c : In-Value-read_field) → c.in-Value-read_field.value < 10000
 below-2 c =
-    let r = c in
-    let a = r.args in
-    (field-bounds a.s.now a.at 4 32 c.in-Value-read_field.value c.in-Value-read_field.next (sym r.read_field-else-has_minus.ensures ∙ c.in-Value-read_field.is)).small
+    let a = c.args in
+    (field-bounds a.s.now a.at 4 32 c.in-Value-read_field.value c.in-Value-read_field.next (sym c.read_field-else-has_minus.ensures ∙ c.in-Value-read_field.is)).small
 
 pub overflow_add-at : goal.overflow_add-at
 overflow_add-at c =
@@ -37,37 +35,33 @@ overflow_cast-result-in-Value-read_field c = pos-fits c.in-Value-read_field.valu
 pub returns-in-Value : goal.returns-in-Value
 unfolding signed_at
 returns-in-Value c =
-    let r = c in
     rw (
       neg-read c.in-Value.value (below c),
-      sym r.has_minus.ensures ∙ r.if-has_minus.true,
-      sym r.read_field.ensures ∙ c.in-Value.is,
+      sym c.has_minus.ensures ∙ c.if-has_minus.true,
+      sym c.read_field.ensures ∙ c.in-Value.is,
     )
 
 pub returns-in-Bad : goal.returns-in-Bad
 unfolding signed_at
 returns-in-Bad c =
-    let r = c in
     rw (
-      sym r.has_minus.ensures ∙ r.if-has_minus.true,
-      sym r.read_field.ensures ∙ c.in-Bad.is,
+      sym c.has_minus.ensures ∙ c.if-has_minus.true,
+      sym c.read_field.ensures ∙ c.in-Bad.is,
     )
 
 pub returns-in-Value-read_field : goal.returns-in-Value-read_field
 unfolding signed_at
 returns-in-Value-read_field c =
-    let r = c in
     rw (
       pos-read c.in-Value-read_field.value (below-2 c),
-      sym r.has_minus.ensures ∙ r.if-has_minus.false,
-      sym r.read_field-else-has_minus.ensures ∙ c.in-Value-read_field.is,
+      sym c.has_minus.ensures ∙ c.if-has_minus.false,
+      sym c.read_field-else-has_minus.ensures ∙ c.in-Value-read_field.is,
     )
 
 pub returns-in-Bad-read_field : goal.returns-in-Bad-read_field
 unfolding signed_at
 returns-in-Bad-read_field c =
-    let r = c in
     rw (
-      sym r.has_minus.ensures ∙ r.if-has_minus.false,
-      sym r.read_field-else-has_minus.ensures ∙ c.in-Bad-read_field.is,
+      sym c.has_minus.ensures ∙ c.if-has_minus.false,
+      sym c.read_field-else-has_minus.ensures ∙ c.in-Bad-read_field.is,
     )

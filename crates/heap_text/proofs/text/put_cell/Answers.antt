@@ -5,7 +5,4 @@ use Rattle.heap_text.proofs.text.put_cell.Goals as goal
 
 pub returns : goal.returns
 unfolding cell_text
-returns c =
-    let d = c in
-    let p = c in
-    rw (← p.pattern-bits.ensures) (wrote_then d.put_digits-past.ensures c.put_byte.ensures)
+returns c = rw (← c.pattern-bits.ensures) (wrote_then c.put_digits-past.ensures c.put_byte.ensures)

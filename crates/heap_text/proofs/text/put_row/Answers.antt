@@ -22,25 +22,23 @@ loop-i-init c = (zero-le, ([], refl, refl, record { bytes = refl; place = search
 
 pub put_cell-next-requires : goal.put_cell-next-requires
 put_cell-next-requires c =
-    let l = c in
-    let p = l.loop-i.invariant.1 in
+    let p = c.loop-i.invariant.1 in
     omega (arith, p.1, p.3.place, wrote-length p.3)
 
 pub loop-i-preserved : goal.loop-i-preserved
 loop-i-preserved c =
-    let l = c in
-    let cells = l.args.cells.now in
-    let p = l.loop-i.invariant.1 in
-    let x = get_or cells l.loop-i.i nan in
+    let cells = c.args.cells.now in
+    let p = c.loop-i.invariant.1 in
+    let x = get_or cells c.loop-i.i nan in
     let e = c.end_byte.result in
-    let eq : e ≡ cond (eqb (l.loop-i.i + 1) (length cells)) 10 32 = c.end_byte.ensures in (
+    let eq : e ≡ cond (eqb (c.loop-i.i + 1) (length cells)) 10 32 = c.end_byte.ensures in (
       omega arith,
       (
         p.0 ++ (cell_text x ++ (e ∷ [])),
         omega (arith, p.1, length-append p.0 (cell_text x ++ (e ∷ [])), length-append (cell_text x) (e ∷ []), cell-length x),
-        append_assoc p.0 (cell_text x ++ (e ∷ [])) (row_text (drop (l.loop-i.i + 1) cells))
-            ∙ ap (λ (k : ℕ). p.0 ++ ((cell_text x ++ (k ∷ [])) ++ row_text (drop (l.loop-i.i + 1) cells))) eq
-            ∙ ap (λ (r : List ℕ). p.0 ++ r) (row_more cells l.loop-i.i nan c.loop-i-test.true)
+        append_assoc p.0 (cell_text x ++ (e ∷ [])) (row_text (drop (c.loop-i.i + 1) cells))
+            ∙ ap (λ (k : ℕ). p.0 ++ ((cell_text x ++ (k ∷ [])) ++ row_text (drop (c.loop-i.i + 1) cells))) eq
+            ∙ ap (λ (r : List ℕ). p.0 ++ r) (row_more cells c.loop-i.i nan c.loop-i-test.true)
             ∙ p.2,
         wrote_then p.3 c.put_cell-next.ensures,
       ),
@@ -51,9 +49,8 @@ shape_of-out c = wrote-length c.loop-i.invariant.1.3
 
 pub returns : goal.returns
 returns c =
-    let l = c in
-    let cells = l.args.cells.now in
-    let p = l.loop-i.invariant.1 in
+    let cells = c.args.cells.now in
+    let p = c.loop-i.invariant.1 in
     let all : p.0 ≡ row_text cells =
     sym (append-nil p.0) ∙ ap (λ (r : List Float). p.0 ++ row_text r) (sym (drop_of_length-le cells c.loop-i-test.false)) ∙ p.2 in
     rw (← all) p.3

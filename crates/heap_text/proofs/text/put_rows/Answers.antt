@@ -57,21 +57,19 @@ overflow_add-from-in-loop-y c = omega (arith, inside (goal.at.overflow_add-from-
 
 pub loop-y-preserved : goal.loop-y-preserved
 loop-y-preserved c =
-    let i = c in
-    let l = c in
-    let a = l.args in
-    let p = l.loop-y.invariant.2 in
-    let raw = take (l.loop-y.from + a.w - l.loop-y.from) (drop l.loop-y.from a.cells.now) in
-    let row : raw ≡ take a.w (drop l.loop-y.from a.cells.now) =
-    ap (λ (k : ℕ). take k (drop l.loop-y.from a.cells.now)) (add-sub_cancel_left l.loop-y.from a.w) in (
+    let a = c.args in
+    let p = c.loop-y.invariant.2 in
+    let raw = take (c.loop-y.from + a.w - c.loop-y.from) (drop c.loop-y.from a.cells.now) in
+    let row : raw ≡ take a.w (drop c.loop-y.from a.cells.now) =
+    ap (λ (k : ℕ). take k (drop c.loop-y.from a.cells.now)) (add-sub_cancel_left c.loop-y.from a.w) in (
       omega arith,
-      rw (add-one, mul-suc) (ap (λ (k : ℕ). k + a.w) l.loop-y.invariant.1),
+      rw (add-one, mul-suc) (ap (λ (k : ℕ). k + a.w) c.loop-y.invariant.1),
       (
         p.0 ++ row_text raw,
         omega (arith, p.1, length-append p.0 (row_text raw), row-length raw, row-size (goal.at.loop-y-preserved c).In-loop-y),
-        append_assoc p.0 (row_text raw) (rows_text a.w (a.h - (l.loop-y.y + 1)) (drop (l.loop-y.from + a.w) a.cells.now))
-            ∙ ap (λ (r : List Float). p.0 ++ (row_text r ++ rows_text a.w (a.h - (l.loop-y.y + 1)) (drop (l.loop-y.from + a.w) a.cells.now))) row
-            ∙ ap (λ (r : List ℕ). p.0 ++ r) (rows_more a.w a.h l.loop-y.y l.loop-y.from a.cells.now i.loop-y-test.true)
+        append_assoc p.0 (row_text raw) (rows_text a.w (a.h - (c.loop-y.y + 1)) (drop (c.loop-y.from + a.w) a.cells.now))
+            ∙ ap (λ (r : List Float). p.0 ++ (row_text r ++ rows_text a.w (a.h - (c.loop-y.y + 1)) (drop (c.loop-y.from + a.w) a.cells.now))) row
+            ∙ ap (λ (r : List ℕ). p.0 ++ r) (rows_more a.w a.h c.loop-y.y c.loop-y.from a.cells.now c.loop-y-test.true)
             ∙ p.2,
         wrote_then p.3 c.put_row-next.ensures,
       ),
@@ -82,10 +80,9 @@ shape_of-out c = wrote-length c.loop-y.invariant.2.3
 
 pub returns : goal.returns
 returns c =
-    let l = c in
-    let a = l.args in
-    let p = l.loop-y.invariant.2 in
-    let none : a.h - l.loop-y.y ≡ 0 = omega arith in
+    let a = c.args in
+    let p = c.loop-y.invariant.2 in
+    let none : a.h - c.loop-y.y ≡ 0 = omega arith in
     let all : p.0 ≡ rows_text a.w a.h a.cells.now =
-    sym (append-nil p.0) ∙ ap (λ (k : ℕ). p.0 ++ rows_text a.w k (drop l.loop-y.from a.cells.now)) (sym none) ∙ p.2 in
+    sym (append-nil p.0) ∙ ap (λ (k : ℕ). p.0 ++ rows_text a.w k (drop c.loop-y.from a.cells.now)) (sym none) ∙ p.2 in
     rw (← all) p.3

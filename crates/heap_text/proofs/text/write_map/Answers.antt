@@ -8,16 +8,13 @@ use Rattle.heap_text.proofs.text.write_map.Goals as goal
 
 pub put_rows-requires : goal.put_rows-requires
 put_rows-requires c =
-    let m = c in
-    let a = m.args in
-    omega (arith, m.put_map_line-at.ensures.place, line-most a.w a.h a.valid)
+    let a = c.args in
+    omega (arith, c.put_map_line-at.ensures.place, line-most a.w a.h a.valid)
 
 pub returns : goal.returns
 unfolding map_text
 returns c =
-    let r = c in
-    let m = c in
-    let a = m.args in
+    let a = c.args in
     printed
     (omega (
       arith,
@@ -25,4 +22,4 @@ returns c =
       line-most a.w a.h a.valid,
       rows-most a.w a.h a.cells.now,
     ))
-    (wrote_then m.put_map_line-at.ensures r.put_rows.ensures)
+    (wrote_then c.put_map_line-at.ensures c.put_rows.ensures)

@@ -18,8 +18,8 @@ use Rattle.refusals.specs.Steps.{is, refused}
 use Rattle.sheets.specs.Code.{is_whole, code_of}
 use Rattle.numbers.proofs.FinitePatterns.{finite_number}
 use Rattle.sheets.proofs.Codes.{whole_float, whole_in, code-unwhole, code-of-int}
-use Rattle.sheets.proofs.code.whole_code.Statement.{statement}
-use Rattle.sheets.proofs.code.whole_code.Tie as tie
+use Rattle.sheets.proofs.code.whole_code.Goals.{After-truncating_f32_to_u64-n, Else-size}
+use Rattle.sheets.proofs.code.whole_code.Goals as goal
 
 -- the whole part of a cell's size
 abbrev whole_part : Float → ℕ
@@ -104,8 +104,6 @@ negative-below (inf s) k v = absurd v
 negative-below (fin false m e) k v = absurd (false≢true v.0)
 negative-below (fin true m e) k v = lt-ltb 0 (m * up e * 1 + 0 * down e) (omega (arith, v.1, down_pos e))
 
--- ---- where the cell is the float of a whole number, its whole part gives it back
-
 -- with the sign of what is below zero, or not
 abbrev signed : Bool → Float → Float
 signed true y = neg y
@@ -119,9 +117,6 @@ back false (pos n) h l = rw (part-int (pos n) h)
 back false (negsuc k) h l = absurd (true≢false (sym (negative-below _ k (round_whole binary32 true (suc k) h)) ∙ l))
 
 -- ---- the function
-
-held : (c : tie.Start) → T (fits binary32 c.args.x)
-held c = search rules
 
 same_bits : (x y : Float) → T (fits binary32 x) → T (fits binary32 y) → to_bits binary32 x ≡ to_bits binary32 y → x ≡ y
 same_bits x y p q e = sym (of_bits-to_bits binary32 x p) ∙ ap (of_bits binary32) e ∙ of_bits-to_bits binary32 y q
@@ -159,108 +154,72 @@ takes-above x n h e =
     let number : suc (2 * n) ≡ n * 2 + 1 = omega arith in
     rw (e, ← number) (code-of-int (pos n) (le-leb n whole_most h))
 
-parts : (c : tie.Else1) → Sized whole_most c.before.before.args.x
-parts c =
-    let start = c.before.before in
-    sized whole_most start.args.x (lit≤ tt) start.requires (rw c.before.magnitude.ensures at c.if1.false)
+parts : (c : Else-size) → Sized whole_most c.args.x
+parts c = sized whole_most c.args.x (lit≤ tt) c.requires (rw c.magnitude-size.ensures at c.if-size.false)
 
-part : (c : tie.After-truncating-f32-to-u64) → c.truncating-f32-to-u64.result ≡ whole_part c.before.before.before.args.x
-part c = c.truncating-f32-to-u64.ensures ∙ ap (to_unsigned 64) c.before.before.magnitude.ensures
+part : (c : After-truncating_f32_to_u64-n) → c.truncating_f32_to_u64-n.result ≡ whole_part c.args.x
+part c = c.truncating_f32_to_u64-n.ensures ∙ ap (to_unsigned 64) c.magnitude-size.ensures
 
-few : (c : tie.After-truncating-f32-to-u64) → c.truncating-f32-to-u64.result ≤ whole_most
-few c = rw (part c) (parts c.before).part
+few : (c : After-truncating_f32_to_u64-n) → c.truncating_f32_to_u64-n.result ≤ whole_most
+few c = rw (part c) (parts (goal.at.After-truncating_f32_to_u64-n c).Else-size).part
 
-magnitude-requires : tie.Need-magnitude-requires
-magnitude-requires c κs = search rules
-
-int-to-float-if1 : tie.Need-int-to-float-if1
+pub int_to_float-t-5 : goal.int_to_float-t-5
 unfolding in_float
-int-to-float-if1 c = tt
+int_to_float-t-5 c = tt
 
-returns : tie.Need-returns
+pub returns-then-size : goal.returns-then-size
+returns-then-size c = rw (refuses-large c.args.x (search rules) c.requires (rw c.magnitude-size.ensures at c.if-size.true))
+
+pub truncating_f32_to_u64-n-requires : goal.truncating_f32_to_u64-n-requires
+truncating_f32_to_u64-n-requires c = rw c.magnitude-size.ensures (record { lower_bound = (parts c).above; upper_bound = (parts c).below })
+
+pub int_to_float-whole : goal.int_to_float-whole
+unfolding in_float
+int_to_float-whole c = le→leb c.truncating_f32_to_u64-n.result (2 ^ 24) (omega (arith, few (goal.at.int_to_float-whole c).After-truncating_f32_to_u64-n))
+
+pub float_to_bits-whole : goal.float_to_bits-whole
+unfolding of_int
+float_to_bits-whole c = rw neg-round (round-no-nan binary32 true c.truncating_f32_to_u64-n.result 1)
+
+pub float_to_bits-x : goal.float_to_bits-x
+float_to_bits-x c = finite_number _ c.requires
+
+pub returns-then-whole-x : goal.returns-then-whole-x
+unfolding of_bits
+returns-then-whole-x c =
+    rw (refuses-other true c.args.x _ (search rules) c.requires c.if-x.true (part (goal.at.returns-then-whole-x c).After-truncating_f32_to_u64-n) c.if-whole-x.true)
+
+pub overflow_mul-result : goal.overflow_mul-result
+overflow_mul-result c = omega (arith, few (goal.at.overflow_mul-result c).After-truncating_f32_to_u64-n)
+
+pub returns-then-x : goal.returns-then-x
+unfolding of_bits
+returns-then-x c =
+    let x = c.args.x in
+    let n = c.truncating_f32_to_u64-n.result in
+    let same = same_bits (neg (of_int binary32 (pos n))) x (neg-fits binary32 _ (of_int-fits binary32 (pos n))) (search rules) c.if-whole-x.false in
+    rw (takes-below x n c.if-x.true (few (goal.at.returns-then-x c).After-truncating_f32_to_u64-n) (sym same))
+
+pub float_to_bits-whole-2 : goal.float_to_bits-whole-2
+unfolding of_int
+float_to_bits-whole-2 c = round-no-nan binary32 false c.truncating_f32_to_u64-n.result 1
+
+pub float_to_bits-x-2 : goal.float_to_bits-x-2
+float_to_bits-x-2 c = finite_number _ c.requires
+
+pub returns-then-whole-x-2 : goal.returns-then-whole-x-2
+unfolding of_bits
+returns-then-whole-x-2 c =
+    rw (refuses-other false c.args.x _ (search rules) c.requires c.if-x.false (part (goal.at.returns-then-whole-x-2 c).After-truncating_f32_to_u64-n) c.if-whole-x-2.true)
+
+pub overflow_mul-result-2 : goal.overflow_mul-result-2
+overflow_mul-result-2 c = omega (arith, few (goal.at.overflow_mul-result-2 c).After-truncating_f32_to_u64-n)
+
+pub overflow_add-result : goal.overflow_add-result
+overflow_add-result c = omega (arith, few (goal.at.overflow_add-result c).After-truncating_f32_to_u64-n)
+
+pub returns : goal.returns
 returns c =
-    let start = c.before.before in
-    rw (refuses-large start.args.x (held start) start.requires (rw c.before.magnitude.ensures at c.if1.true))
-
-truncating-f32-to-u64-requires : tie.Need-truncating-f32-to-u64-requires
-truncating-f32-to-u64-requires c κs = rw c.before.magnitude.ensures ((parts c).above, (parts c).below)
-
-int-to-float-whole : tie.Need-int-to-float-whole
-unfolding in_float
-int-to-float-whole c = le→leb c.before.truncating-f32-to-u64.result (2 ^ 24) (omega (arith, few c.before))
-
-float-to-bits-if3 : tie.Need-float-to-bits-if3
-unfolding of_int
-float-to-bits-if3 c = rw neg-round (round-no-nan binary32 true c.before.before.truncating-f32-to-u64.result 1)
-
-float-to-bits-if3-2 : tie.Need-float-to-bits-if3-2
-float-to-bits-if3-2 c = finite_number _ c.before.before.before.before.before.requires
-
-returns-2 : tie.Need-returns-2
-unfolding of_bits
-returns-2 c =
-    let cutting = c.before.before.before in
-    let start = cutting.before.before.before in
-    rw (refuses-other true start.args.x _ (held start) start.requires c.before.if2.true (part cutting) c.if3.true)
-
-mul-t11 : tie.Need-overflow-mul-t11
-mul-t11 c = omega (arith, few c.before.before.before)
-
-returns-3 : tie.Need-returns-3
-unfolding of_bits
-returns-3 c =
-    let cutting = c.before.before.before in
-    let start = cutting.before.before.before in
-    let x = start.args.x in
-    let n = cutting.truncating-f32-to-u64.result in
-    let same = same_bits (neg (of_int binary32 (pos n))) x (neg-fits binary32 _ (of_int-fits binary32 (pos n))) (held start) c.if3.false in
-    rw (takes-below x n c.before.if2.true (few cutting) (sym same))
-
-float-to-bits-if4 : tie.Need-float-to-bits-if4
-unfolding of_int
-float-to-bits-if4 c = round-no-nan binary32 false c.before.before.truncating-f32-to-u64.result 1
-
-float-to-bits-if4-2 : tie.Need-float-to-bits-if4-2
-float-to-bits-if4-2 c = finite_number _ c.before.before.before.before.before.requires
-
-returns-4 : tie.Need-returns-4
-unfolding of_bits
-returns-4 c =
-    let cutting = c.before.before.before in
-    let start = cutting.before.before.before in
-    rw (refuses-other false start.args.x _ (held start) start.requires c.before.if2.false (part cutting) c.if4.true)
-
-mul-t14 : tie.Need-overflow-mul-t14
-mul-t14 c = omega (arith, few c.before.before.before)
-
-add-t15 : tie.Need-overflow-add-t15
-add-t15 c = omega (arith, few c.before.before.before)
-
-returns-5 : tie.Need-returns-5
-returns-5 c =
-    let cutting = c.before.before.before in
-    let start = cutting.before.before.before in
-    let x = start.args.x in
-    let n = cutting.truncating-f32-to-u64.result in
-    rw (takes-above x n (few cutting) (sym (same_bits (of_int binary32 (pos n)) x (of_int-fits binary32 (pos n)) (held start) c.if4.false)))
-
-pub whole-code-spec : {M : Type 1} → statement M
-whole-code-spec =
-    tie.close
-    (tie.spec
-    magnitude-requires
-    int-to-float-if1
-    returns
-    truncating-f32-to-u64-requires
-    int-to-float-whole
-    float-to-bits-if3
-    float-to-bits-if3-2
-    returns-2
-    mul-t11
-    returns-3
-    float-to-bits-if4
-    float-to-bits-if4-2
-    returns-4
-    mul-t14
-    add-t15
-    returns-5)
+    let x = c.args.x in
+    let n = c.truncating_f32_to_u64-n.result in
+    rw (takes-above x n (few (goal.at.returns c).After-truncating_f32_to_u64-n) (sym (same_bits (of_int binary32 (pos n)) x (of_int-fits binary32 (pos n)) (search rules) c.if-whole-x-2.false)))
