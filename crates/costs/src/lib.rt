@@ -1,4 +1,6 @@
 // The raw cost and the raw volume (document 01).
+#![tactic(auto)]
+
 ghost use Rattle.std.specs.Prelude.{◌≡◌, length};
 ghost use Rattle.costs.specs.Outcome.{raw_call, RawOutcome};
 

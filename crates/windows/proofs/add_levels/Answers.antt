@@ -16,26 +16,21 @@ loop-x-init c = row-start _ _ _ c.requires (λ x. omega (arith, c.type_inv.level
 
 pub put_below-requires : goal.put_below-requires
 put_below-requires c =
-    let at = c in
-    row_put _ _ _ at.requires (small (goal.at.put_below-requires c).At-loop-x) _ _ _ at.loop-x.invariant
+    row_put _ _ _ c.requires (small (goal.at.put_below-requires c).At-loop-x) _ _ _ c.loop-x.invariant
 
 pub overflow_add-run : goal.overflow_add-run
 overflow_add-run c =
-    let at = c in
-    record { fits = row-sum _ _ _ at.requires (small (goal.at.overflow_add-run c).At-loop-x) _ _ _ at.loop-x.invariant _ c.wide-run.ensures }
+    record { fits = row-sum _ _ _ c.requires (small (goal.at.overflow_add-run c).At-loop-x) _ _ _ c.loop-x.invariant _ c.wide-run.ensures }
 
 pub loop-x-preserved : goal.loop-x-preserved
 loop-x-preserved c =
-    let at = c in
-    row-again _ _ _ at.requires (small (goal.at.loop-x-preserved c).At-loop-x) _ _ _ at.loop-x.invariant
+    row-again _ _ _ c.requires (small (goal.at.loop-x-preserved c).At-loop-x) _ _ _ c.loop-x.invariant
     _ c.wide-run.result _ (omega arith) c.put_below.ensures c.wide-run.ensures refl
 
 pub put_below-requires-2 : goal.put_below-requires-2
 put_below-requires-2 c =
-    let at = c in
-    row_put _ _ _ at.requires (small (goal.at.put_below-requires-2 c).At-loop-x) _ _ _ at.loop-x.invariant
+    row_put _ _ _ c.requires (small (goal.at.put_below-requires-2 c).At-loop-x) _ _ _ c.loop-x.invariant
 
 pub returns : goal.returns
 returns c =
-    let at = c in
-    row_done _ _ _ at.requires (small (goal.at.returns c).At-loop-x) _ _ _ at.loop-x.invariant _ (omega arith) c.put_below-2.ensures
+    row_done _ _ _ c.requires (small (goal.at.returns c).At-loop-x) _ _ _ c.loop-x.invariant _ (omega arith) c.put_below-2.ensures

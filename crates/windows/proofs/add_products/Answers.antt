@@ -34,33 +34,30 @@ unfolding sum_to
 loop-i-init c = (search rules, search rules, refl, below-start c.requires.0 _)
 
 pub overflow_add-first : goal.overflow_add-first
-overflow_add-first c = let at = c in omega (arith, at.requires.0, at.loop-i.invariant)
+overflow_add-first c = omega (arith, c.requires.0, c.loop-i.invariant)
 
 pub put_below-requires : goal.put_below-requires
 put_below-requires c =
-    let at = c in
-    below_put at.requires.0 _ _ at.loop-i.invariant.3 _ (omega (arith, at.loop-i.invariant)) (omega (arith, sum-most (goal.at.put_below-requires c).At-loop-i, at.loop-i.invariant.0, at.requires.2))
+    below_put c.requires.0 _ _ c.loop-i.invariant.3 _ (omega (arith, c.loop-i.invariant)) (omega (arith, sum-most (goal.at.put_below-requires c).At-loop-i, c.loop-i.invariant.0, c.requires.2))
 
 pub overflow_add-run : goal.overflow_add-run
-overflow_add-run c = let at = c in omega (arith, c.product-run.ensures, next-most (goal.at.overflow_add-run c).At-loop-i, sum-most (goal.at.overflow_add-run c).At-loop-i, at.loop-i.invariant.0, at.requires.2)
+overflow_add-run c = omega (arith, c.product-run.ensures, next-most (goal.at.overflow_add-run c).At-loop-i, sum-most (goal.at.overflow_add-run c).At-loop-i, c.loop-i.invariant.0, c.requires.2)
 
 pub loop-i-smaller : goal.loop-i-smaller
 loop-i-smaller c = omega (arith, c.loop-i.invariant)
 
 pub loop-i-preserved : goal.loop-i-preserved
 loop-i-preserved c =
-    let at = c in
     let more = c.loop-i-test.true in (
-      omega (arith, at.loop-i.invariant),
-      at.loop-i.invariant.1,
-      sum-next _ _ _ _ at.loop-i.invariant.2 c.product-run.ensures,
-      below_next at.requires.0 _ _ at.loop-i.invariant.3 _ _ (omega (arith, at.loop-i.invariant)) at.loop-i.invariant.2 c.put_below.ensures,
+      omega (arith, c.loop-i.invariant),
+      c.loop-i.invariant.1,
+      sum-next _ _ _ _ c.loop-i.invariant.2 c.product-run.ensures,
+      below_next c.requires.0 _ _ c.loop-i.invariant.3 _ _ (omega (arith, c.loop-i.invariant)) c.loop-i.invariant.2 c.put_below.ensures,
     )
 
 pub returns : goal.returns
 returns c =
-    let at = c in
-    let last : length at.args.a.now ≤ at.loop-i.i = omega (arith, at.loop-i.invariant, c.loop-i-test.false) in (
-      at.loop-i.invariant.2 ∙ ap (λ k. sum_to k (product_in at.args.a.now at.args.b.now)) (le_antisymm at.loop-i.invariant.0 last),
-      below_end at.requires.0 _ _ at.loop-i.invariant.3 at.loop-i.invariant.0 last,
+    let last : length c.args.a.now ≤ c.loop-i.i = omega (arith, c.loop-i.invariant, c.loop-i-test.false) in (
+      c.loop-i.invariant.2 ∙ ap (λ k. sum_to k (product_in c.args.a.now c.args.b.now)) (le_antisymm c.loop-i.invariant.0 last),
+      below_end c.requires.0 _ _ c.loop-i.invariant.3 c.loop-i.invariant.0 last,
     )

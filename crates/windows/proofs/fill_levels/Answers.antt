@@ -44,17 +44,14 @@ overflow_add-last c = omega (arith, here c)
 
 pub add_levels-requires : goal.add_levels-requires
 add_levels-requires c =
-    let a = c in
-    let p = a.requires in
-    table-ready _ _ _ (small (goal.at.add_levels-requires c).At-loop-y) _ p.w-most p.h-most _ _ a.loop-y.invariant c.loop-y-test.true _ p.bytes
+    let p = c.requires in
+    table-ready _ _ _ (small (goal.at.add_levels-requires c).At-loop-y) _ p.w-most p.h-most _ _ c.loop-y.invariant c.loop-y-test.true _ p.bytes
 
 pub loop-y-preserved : goal.loop-y-preserved
 loop-y-preserved c =
-    let t = c in
-    let a = c in
-    let p = a.requires in
-    table-again _ _ _ (small (goal.at.loop-y-preserved c).At-loop-y) _ p.w-most p.h-most _ _ a.loop-y.invariant t.loop-y-test.true
-    _ _ _ p.bytes (λ x. ap (λ r. level_in r x) (lent_row a.args.w a.loop-y.y a.args.pic.now)) c.add_levels.ensures
+    let p = c.requires in
+    table-again _ _ _ (small (goal.at.loop-y-preserved c).At-loop-y) _ p.w-most p.h-most _ _ c.loop-y.invariant c.loop-y-test.true
+    _ _ _ p.bytes (λ x. ap (λ r. level_in r x) (lent_row c.args.w c.loop-y.y c.args.pic.now)) c.add_levels.ensures
 
 pub returns : goal.returns
 returns c = table_done _ _ _ _ _ _ c.loop-y.invariant c.loop-y-test.false
