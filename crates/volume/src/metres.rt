@@ -5,7 +5,7 @@ ghost use Rattle.volume.specs.Metres.{millimetres, good_coordinate, all_good, sp
 use numbers::wide::round_half_away_wide;
 
 // A point, in whole millimetres.
-#[derive(Drop)]
+#[derive(Clone, Copy)]
 pub struct Spot {
     pub x: i64,
     pub y: i64,

@@ -16,7 +16,7 @@ const CELLS_MOST: usize = 65536;
 
 // A rectangle, the side of a cell, and the floor's depth, all in whole millimetres. Left and top are the low edges: x goes to the
 // right and y downwards, as in the pictures.
-#[derive(Drop)]
+#[derive(Clone, Copy)]
 pub struct Site {
     pub left: i64,
     pub right: i64,

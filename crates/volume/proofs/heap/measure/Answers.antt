@@ -4,7 +4,6 @@ use mathlib.Core.Path.{◌≡◌, ap, ◌∙◌}
 use mathlib.Core.Bool.{true, cond}
 use mathlib.Core.List.{List, map}
 use native.Mathlib.Omega.{arith}
-use borrow.Author.Rules.{rules}
 use borrow.Author.Tests.{leb-true}
 use lib.Dec.{leb, eqb}
 use lib.Ieee.{Float}
@@ -20,8 +19,8 @@ use Rattle.volume.specs.Inner.{SiteFits, levels_of, LevelsFit}
 use Rattle.volume.proofs.Counts.{counts-given}
 use Rattle.volume.proofs.Largest.{heights-most, volume-most}
 use Rattle.volume.proofs.Lowered.{levels-length, levels-fit, levels-lowered, heights-sum, empties-sum}
-use Rattle.volume.proofs.heap.measure.Statement.{statement}
-use Rattle.volume.proofs.heap.measure.Tie as tie
+use Rattle.volume.proofs.heap.measure.Goals.{After-drop_points-inside}
+use Rattle.volume.proofs.heap.measure.Goals as goal
 
 -- the side of a cell
 cell-most : (s : Site) → good_cell s ≡ true → s.cell ≤ 10000
@@ -62,62 +61,34 @@ module _ {s : Site} {columns : ℕ} {xs ys zs : List Float} {levels : List ℕ} 
         let clear : empty ≡ empty_count s (spots_of xs ys zs) = none ∙ rw f.are (empties-sum s (spots_of xs ys zs)) in
         cc (volume-is, f.counted)
 
-abbrev begun : tie.After-drop-points → tie.Start
-begun c = c.before.before.before.before.before.before.before.before.before.before
+filled : (c : After-drop_points-inside)
+    → Filled c.args.site c.args.columns c.args.xs.now c.args.ys.now c.args.zs.now
+    c.drop_points-inside.new.grid c.drop_points-inside.result
+filled c = record { fit = c.requires.0; good = c.requires.1.0; counted = c.drop_points-inside.ensures.0; are = c.drop_points-inside.ensures.1 }
 
-filled : (c : tie.After-drop-points)
-    → Filled (begun c).args.site (begun c).args.columns (begun c).args.xs.now (begun c).args.ys.now (begun c).args.zs.now
-    c.drop-points.new.0 c.drop-points.result
-filled c = record { fit = (begun c).requires.0; good = (begun c).requires.1.0; counted = c.drop-points.ensures.0; are = c.drop-points.ensures.1 }
+pub drop_points-inside-requires : goal.drop_points-inside-requires
+drop_points-inside-requires c =
+    (c.requires.0, (c.requires.1.0, c.clear_u64.ensures ∙ ap (λ n. replicate n 0) c.requires.1.1))
 
-clear-u64-requires : tie.Need-clear-u64-requires
-clear-u64-requires c κs = search rules
+pub settle-totals-requires : goal.settle-totals-requires
+settle-totals-requires c = levels-good (filled (goal.at.settle-totals-requires c).After-drop_points-inside)
 
-drop-points-requires : tie.Need-drop-points-requires
-drop-points-requires c κs =
-    let clear = c.before.before.before in
-    let start = clear.before.before.before.before.before.before in
-    (start.requires.0, (start.requires.1.0, clear.clear-u64.ensures ∙ ap (λ n. replicate n 0) start.requires.1.1))
+pub cell_area-area-requires : goal.cell_area-area-requires
+cell_area-area-requires c =
+    cell-most c.args.site c.requires.0.cell
 
-settle-requires : tie.Need-settle-requires
-settle-requires c κs = levels-good (filled c.before.before.before)
+pub overflow_mul-result : goal.overflow_mul-result
+overflow_mul-result c =
+    rw c.cell_area-area.ensures
+    record { fits = volume-fits (filled (goal.at.overflow_mul-result c).After-drop_points-inside) c.settle-totals.result.height c.settle-totals.ensures.0 }
 
-cell-area-requires : tie.Need-cell-area-requires
-cell-area-requires c κs =
-    let start = c.before.before.before.before.before.before.before.before.before.before.before.before.before.before.before.before in
-    cell-most start.args.site start.requires.0.cell
+pub overflow_sub-result : goal.overflow_sub-result
+overflow_sub-result c = inside-most (filled (goal.at.overflow_sub-result c).After-drop_points-inside)
 
-mul-t17 : tie.Need-overflow-mul-t17
-mul-t17 c =
-    let settle = c.before.before.before.before in
-    rw c.before.cell-area.ensures
-    record { fits = volume-fits (filled settle.before.before.before.before) settle.settle.result.height settle.settle.ensures.0 }
-
-sub-t19 : tie.Need-overflow-sub-t19
-sub-t19 c = inside-most (filled c.before.before.before.before.before.before.before.before)
-
-same_length : tie.Need-same-length
-same_length c = search rules
-
-returns : tie.Need-returns
+pub returns : goal.returns
 returns c =
-    let settle = c.before.before.before.before in
-    let drop = settle.before.before.before.before in
-    let at = (begun drop).args in
-    rw c.before.cell-area.ensures (
-      figures-are (filled drop) settle.settle.result.height settle.settle.ensures.0 settle.settle.result.empty settle.settle.ensures.1.0,
-      settle.settle.ensures.1.1 ∙ ap (map (λ v. v - 1)) (filled drop).are ∙ levels-lowered at.site (spots_of at.xs.now at.ys.now at.zs.now),
+    let at = c.args in
+    rw c.cell_area-area.ensures (
+      figures-are (filled (goal.at.returns c).After-drop_points-inside) c.settle-totals.result.height c.settle-totals.ensures.0 c.settle-totals.result.empty c.settle-totals.ensures.1.0,
+      c.settle-totals.ensures.1.1 ∙ ap (map (λ v. v - 1)) (filled (goal.at.returns c).After-drop_points-inside).are ∙ levels-lowered at.site (spots_of at.xs.now at.ys.now at.zs.now),
     )
-
-pub measure-spec : {M : Type 1} → statement M
-measure-spec =
-    tie.close
-    (tie.spec
-    clear-u64-requires
-    drop-points-requires
-    settle-requires
-    cell-area-requires
-    mul-t17
-    sub-t19
-    same_length
-    returns)

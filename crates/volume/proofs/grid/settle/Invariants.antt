@@ -1,0 +1,6 @@
+-- `volume::grid::settle` meets its contract. Assumes nothing.
+use Rattle.volume.proofs.Settling.{Settling}
+use Rattle.volume.proofs.grid.settle.Given as goal
+
+abbrev pub invariant-loop-i : goal.invariant-loop-i
+invariant-loop-i l = Settling l.initial.grid l.grid l.height l.empty l.i
