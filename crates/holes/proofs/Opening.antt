@@ -16,7 +16,6 @@ use Rattle.options.specs.Costs.{raw_of}
 use Rattle.maps.specs.declared.Cell.{Cell}
 use Rattle.maps.specs.declared.Cell.TheVariants.{Mark, At}
 use Rattle.maps.specs.Cells.{in_buffer, cell_of}
-use Rattle.choices.specs.SemiGlobal.{unlessMarked}
 use Rattle.holes.specs.Holes.{is_blank, is_hole, open_at, opened_by}
 
 abbrev pub zero-cell : Cell
@@ -28,8 +27,13 @@ unfolding is_nan
 read_back true = refl
 read_back false = refl
 
+-- what a semi-global choice that keeps its holes makes of the pixel before it: the mark stays (W-207, docs/W-207-begun.patch, which has it in `choices`)
+abbrev pub unless_marked : Cell → Cell → Cell
+unless_marked Mark chosen = Mark
+unless_marked (At d) chosen = chosen
+
 -- and decides the choice
-pub kept-open : (t : Bool) (chosen : Cell) → unlessMarked (cell_of (in_buffer (cond t Mark zero-cell))) chosen ≡ cond t Mark chosen
+pub kept-open : (t : Bool) (chosen : Cell) → unless_marked (cell_of (in_buffer (cond t Mark zero-cell))) chosen ≡ cond t Mark chosen
 unfolding is_nan
 kept-open true chosen = refl
 kept-open false chosen = refl

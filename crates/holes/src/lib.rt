@@ -1,5 +1,7 @@
 // The holes of a raw volume: the pixels whose raw cost is blank at every index. They are read off the raw costs and never off the
 // matching costs, where a raw cost of -1 is as dear as a blank one.
+#![tactic(auto)]
+
 ghost use Rattle.std.specs.Prelude.{◌≡◌, ◌*◌, ◌≤◌, length, get_or};
 ghost use Rattle.std.specs.Float.{nan};
 ghost use Rattle.lists.specs.Lists.{list_of};

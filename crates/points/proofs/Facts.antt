@@ -5,7 +5,6 @@ use native.Mathlib.Numerals.{add-one}
 use native.Mathlib.Omega.{arith}
 use mathlib.Core.Bool.{Bool, true, false, not, false≢true}
 use mathlib.Core.List.{List, [], ◌∷◌}
-use borrow.Author.Tests.{not-true, not-false}
 use lib.ListN.{length, get_or, drop}
 use lib.Seq.{drop-cons, drop-length}
 use lib.Dec.{T, le→leb}
@@ -19,11 +18,11 @@ use Rattle.points.specs.Point.{is_positive}
 use Rattle.points.specs.Records.{points_in, point_record, records_from}
 
 -- ---- a test that sends a caller back, by what the test says
-pub failed : {t p : Bool} → t ≡ p → not t ≡ true → p ≡ false
-failed {t} e h = sym e ∙ not-true t h
+pub failed : {t p : Bool} → t ≡ p → t ≡ false → p ≡ false
+failed e h = sym e ∙ h
 
-pub passed : {t p : Bool} → t ≡ p → not t ≡ false → p ≡ true
-passed {t} e h = sym e ∙ not-false t h
+pub passed : {t p : Bool} → t ≡ p → t ≡ true → p ≡ true
+passed e h = sym e ∙ h
 
 -- ---- what is left of the cells from i on, and from i + 1 on
 module _ (cells : List Float) (i : ℕ) (b : i < length cells) where

@@ -3,7 +3,7 @@
 --     Filling     the loop's state: n records are written, and the next one is that of a cell from `at` on
 --     begins, goes_on, ended     the state before the loop, after a turn, and what the list is at the end
 use mathlib.Core.Path.{◌≡◌, refl, sym, ap, ◌∙◌}
-use Prim.Native.Nat.{ℕ, zero, suc, ◌+◌, ◌*◌, ◌≤◌, ◌<◌, ◌^◌}
+use Prim.Native.Nat.{ℕ, zero, suc, ◌+◌, ◌*◌, ◌≤◌, ◌<◌}
 use native.Mathlib.Numerals.{add-one}
 use native.Mathlib.Nat.{le_antisymm}
 use native.Mathlib.Omega.{arith}
@@ -92,59 +92,50 @@ module _ (w h : ℕ) (cells : List Float) (k : Intrinsics) (list : List PointRec
       go zero = ap (λ (l : List PointRecord). l ++ drop (points_in cells) list) (ap (λ (n : ℕ). take n records) (sym (records-length w k 0 cells)) ∙ take-length records)
       go (suc n) = refl
 
-  -- the loop's state
-  pub record Filling (count : ℕ) : Type 0 where
-    pub n : ℕ
-    pub at : ℕ
-    pub now : List PointRecord
+  -- the loop's state: n of `count` records are written in `now`, and the next one is that of a cell from `at` on
+  pub record Filling (count n at : ℕ) (now : List PointRecord) : Type 0 where
     pub most : n ≤ count
-    pub at-fits : at < 2 ^ 64
     pub done : now ≡ upto n
     pub left : drop n records ≡ records_from w k at (drop at cells)
 
-  abbrev pub begins : (count : ℕ) → Filling count
-  begins count = record { n = 0; at = 0; now = list; most = omega arith; at-fits = omega arith; done = refl; left = refl }
+  pub begins : (count : ℕ) → Filling count 0 0 list
+  begins count = record { most = omega arith; done = refl; left = refl }
 
-  module _ (count : ℕ) (r : Ready count) (f : Filling count) where
+  module _ (count n at : ℕ) (now : List PointRecord) (r : Ready count) (f : Filling count n at now) where
     -- the list keeps its length
-    pub long : length f.now ≡ length list
+    pub long : length now ≡ length list
     long = rw f.done (simp (length-append, length-drop) (omega (arith, short, r.fits, f.most)))
       where
-        positive : (n : ℕ) → n ≤ count → length (take n records) ≡ n
+        positive : (m : ℕ) → m ≤ count → length (take m records) ≡ m
         positive zero h = refl
-        positive (suc n) h = length-take-le (suc n) records (omega (arith, r.all (omega arith), h))
+        positive (suc m) h = length-take-le (suc m) records (omega (arith, r.all (omega arith), h))
 
-        short : length (take f.n records) ≡ f.n
-        short = positive f.n f.most
+        short : length (take n records) ≡ n
+        short = positive n f.most
 
-    module _ (more : f.n < count) where
+    module _ (more : n < count) where
       -- there is a further point
-      pub point-left : 0 < points_in (drop f.at cells)
-      point-left = omega (arith, records-length w k f.at (drop f.at cells), ap length f.left, length-drop f.n records, r.all (omega arith))
+      pub point-left : 0 < points_in (drop at cells)
+      point-left = omega (arith, records-length w k at (drop at cells), ap length f.left, length-drop n records, r.all (omega arith))
 
-      pub below : f.n < length f.now
+      pub below : n < length now
       below = omega (arith, long, r.fits)
 
-      in-records : f.n < length records
+      in-records : n < length records
       in-records = omega (arith, r.all (omega arith))
 
-      in_list : f.n < length list
+      in_list : n < length list
       in_list = omega (arith, r.fits)
 
-      module _ (p : PointRecord) (at : ℕ) (fits : at < 2 ^ 64) (e : records_from w k f.at (drop f.at cells) ≡ p ∷ records_from w k at (drop at cells)) where
-        pub one-done : set f.now f.n p ≡ upto (f.n + 1)
-        one-done = ap (λ (l : List PointRecord). set l f.n p) f.done ∙ one_more records list f.n p _ in-records in_list (f.left ∙ e)
-
-        pub one_left : drop (f.n + 1) records ≡ records_from w k at (drop at cells)
-        one_left = one_fewer records list f.n p _ in-records in_list (f.left ∙ e)
-
-        pub one-most : f.n + 1 ≤ count
-        one-most = omega arith
-
-        -- a further record is written
-        abbrev pub goes_on : Filling count
-        goes_on = record { n = f.n + 1; at = at; now = set f.now f.n p; most = one-most; at-fits = fits; done = one-done; left = one_left }
+      -- a further record is written
+      pub goes_on : (p : PointRecord) (next : ℕ) → records_from w k at (drop at cells) ≡ p ∷ records_from w k next (drop next cells) → Filling count (n + 1) next (set now n p)
+      goes_on p next e =
+          record {
+            most = omega arith;
+            done = ap (λ (l : List PointRecord). set l n p) f.done ∙ one_more records list n p _ in-records in_list (f.left ∙ e);
+            left = one_fewer records list n p _ in-records in_list (f.left ∙ e);
+          }
 
     -- the list at the end
-    pub ended : count ≡ to_write (first_of rows) → count ≤ f.n → f.now ≡ list_after w h cells k list
+    pub ended : count ≡ to_write (first_of rows) → count ≤ n → now ≡ list_after w h cells k list
     ended e over = f.done ∙ (ap upto (le_antisymm f.most over ∙ e) ∙ whole)

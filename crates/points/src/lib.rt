@@ -1,5 +1,7 @@
 // The points of a disparity map: the point formula, its checks, and the list of point records, which the caller lends.
-// `points` is the one function over a slice of structs: it leaves each decision to covered functions, and is proved by hand.
+// `points` is the one function over a slice of structs: it leaves each decision to the others.
+#![tactic(auto)]
+
 ghost use Rattle.std.specs.Prelude.{◌≡◌, true, ◌∷◌, ◌*◌, ◌<◌, ◌≤◌, length, drop};
 ghost use Rattle.std.specs.Float.Ieee.Scale.{finite};
 ghost use Rattle.options.specs.Limits.{side_most};
@@ -11,7 +13,7 @@ ghost use Rattle.points.specs.Records.{points_in, point_record, records_from, po
 use numbers::plain::{is_finite, is_finite_wide};
 
 // The camera's numbers and the baseline.
-#[derive(Drop)]
+#[derive(Clone, Copy)]
 pub struct Intrinsics {
     pub fx: f64,
     pub fy: f64,
