@@ -9,7 +9,7 @@ ghost use Rattle.netpbm.specs.Pfm.{outward, inward, cell_bytes, file_cell};
 use maps::Cell;
 
 // Which byte of a number comes first: its lowest or its highest.
-#[derive(Drop)]
+#[derive(Clone, Copy)]
 pub enum Order {
     Little,
     Big,
