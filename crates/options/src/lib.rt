@@ -1,5 +1,6 @@
 // What a match is asked for: the options, the raw cost as a type, and the sizes allowed.
 #![tactic(auto)]
+
 ghost use Rattle.std.specs.Prelude.{◌≡◌};
 ghost use Rattle.options.specs.Limits.{is_side, block_even, block_large, too_small};
 ghost use Rattle.options.specs.Frame.{within, is_in_frame};
