@@ -14,14 +14,11 @@ out_refusal-output-requires c = sizes c.args.call (sym c.pair_refusal-pair.ensur
 
 pub returns-then-output-ne0 : goal.returns-then-output-ne0
 returns-then-output-ne0 c =
-    let e = c in
-    by-output e.args.call (sym e.pair_refusal-pair.ensures ∙ e.if-pair-ne0.false) (sym e.penalty_refusal-penalties.ensures ∙ e.if-penalties-ne0.false) _ c.out_refusal-output.ensures c.if-output-ne0.true
+    by-output c.args.call (sym c.pair_refusal-pair.ensures ∙ c.if-pair-ne0.false) (sym c.penalty_refusal-penalties.ensures ∙ c.if-penalties-ne0.false) _ c.out_refusal-output.ensures c.if-output-ne0.true
 
 pub room_refusal-requires : goal.room_refusal-requires
-room_refusal-requires c = let e = c in sizes e.args.call (sym e.pair_refusal-pair.ensures ∙ e.if-pair-ne0.false)
+room_refusal-requires c = sizes c.args.call (sym c.pair_refusal-pair.ensures ∙ c.if-pair-ne0.false)
 
 pub returns : goal.returns
 returns c =
-    let f = c in
-    let e = c in
-    by-rooms e.args.call (sym e.pair_refusal-pair.ensures ∙ e.if-pair-ne0.false) (sym e.penalty_refusal-penalties.ensures ∙ e.if-penalties-ne0.false) (sym f.out_refusal-output.ensures ∙ f.if-output-ne0.false) _ c.room_refusal.ensures
+    by-rooms c.args.call (sym c.pair_refusal-pair.ensures ∙ c.if-pair-ne0.false) (sym c.penalty_refusal-penalties.ensures ∙ c.if-penalties-ne0.false) (sym c.out_refusal-output.ensures ∙ c.if-output-ne0.false) _ c.room_refusal.ensures
