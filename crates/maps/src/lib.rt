@@ -13,7 +13,7 @@ use numbers::plain::is_finite;
 use options::{is_block_even, is_block_large, is_side, is_too_small};
 
 // One cell of a map: the mark of a cell that has no number, or a number.
-#[derive(Drop)]
+#[derive(Clone, Copy)]
 pub enum Cell {
     Mark,
     At(f32),

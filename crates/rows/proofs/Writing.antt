@@ -3,7 +3,7 @@
 --     Writing     the loop's state: y records are written
 --     kept, one_more, ended     the index keeps its length, one record more, and what it is at the end
 use mathlib.Core.Path.{◌≡◌, refl, ap, ◌∙◌}
-use Prim.Native.Nat.{ℕ, zero, suc, ◌+◌, ◌*◌, ◌≤◌, ◌<◌}
+use Prim.Native.Nat.{ℕ, zero, suc, ◌+◌, ◌*◌, ◌^◌, ◌≤◌, ◌<◌}
 use native.Mathlib.Nat.{le_antisymm, mul_comm}
 use native.Mathlib.Omega.{arith}
 use mathlib.Core.List.{List, ◌++◌}
@@ -33,9 +33,10 @@ module _ (w h : ℕ) (cells : List Float) (index : List RowRecord) where
   abbrev pub made : List RowRecord
   made = after refusal (fresh_index w h cells) index
 
-  -- there is room for the records, each of their rows is there, and with all of them the index is what it is to be
+  -- there is room for the records, they are few, each of their rows is there, and with all of them the index is what it is to be
   pub record Ready (rows : ℕ) : Type 0 where
     pub fits : rows ≤ length index
+    pub few : rows < 2 ^ 32
     pub there : (y : ℕ) → y < rows → y * w + w ≤ length cells
     pub whole : upto rows ≡ made
 
@@ -48,10 +49,11 @@ module _ (w h : ℕ) (cells : List Float) (index : List RowRecord) where
           let f = fresh-fits w h (length cells) (length index) z in
           record {
             fits = omega (arith, f.long);
+            few = omega (arith, f.size.low);
             there = λ y l. row_in y h w (length cells) l (omega (arith, f.size.long, mul_comm w h));
             whole = rw z (filled-end h h record-at index refl f.long);
           }
-      go (suc n) z = record { fits = omega arith; there = λ y l. absurd (omega (arith, l)); whole = rw z refl }
+      go (suc n) z = record { fits = omega arith; few = omega arith; there = λ y l. absurd (omega (arith, l)); whole = rw z refl }
 
   -- the loop's state
   pub record Writing (rows : ℕ) : Type 0 where

@@ -1,6 +1,8 @@
 // The row index beside a map: for each row how many of its cells are valid, and the least and the greatest of those, kept so while
 // single cells are edited. The caller lends the records. `fresh_index` and `edit_cell` are the two functions over a slice of structs:
-// each leaves what is to be written, and what is answered, to covered functions, and is proved by hand.
+// each leaves what is to be written, and what is answered, to functions over plain values.
+#![tactic(auto)]
+
 ghost use Rattle.std.specs.Prelude.{◌≡◌, ◌+◌, ◌*◌, ◌<◌, ◌≤◌, length};
 ghost use Rattle.lists.specs.Rows.{row_of};
 ghost use Rattle.refusals.specs.Outcome.{after};
@@ -54,7 +56,7 @@ impl RowRecord {
 }
 
 // An edit: a pixel, and its new cell.
-#[derive(Drop)]
+#[derive(Clone, Copy)]
 pub struct Edit {
     pub x: usize,
     pub y: usize,
