@@ -1,4 +1,6 @@
 // Matching two pictures: the block map, the semi-global map, and the left-right test (document 01).
+#![tactic(auto)]
+
 ghost use Rattle.std.specs.Prelude.{length};
 ghost use Rattle.matching.specs.Outcome.{match_call, MatchOutcome};
 

@@ -1,0 +1,43 @@
+-- `matching::direction::solve_block` meets its contract: the raw volume, which stays, and the choices by it. Assumes nothing.
+use mathlib.Core.Path.{◌≡◌, sym, ap, ◌∙◌, subst}
+use mathlib.Core.List.{List}
+use native.Mathlib.Omega.{arith}
+use lib.Ieee.{Float}
+use lib.ListN.{length, take}
+use lib.Seq.{take_all}
+use Rattle.costs.specs.Rooms.{Picture}
+use Rattle.matching.specs.Inner.{cells_in, VolumeRanged}
+use Rattle.matching.proofs.ThirdVolume.{volume-length}
+use Rattle.matching.proofs.Turns.{sized, volume-ranged}
+use Rattle.matching.proofs.direction.solve_block.Goals.{After-shared_slice_known-1, After-shared_slice_known-2-1, Start}
+use Rattle.matching.proofs.direction.solve_block.Goals as goal
+
+-- the two pictures' bytes, as the slices have them
+left-picture : (c : After-shared_slice_known-1) → Picture c.args.w c.args.h c.args.left.now
+left-picture c = record { bytes = c.requires.side_room.fits.volume.sizes.a-bytes; small = λ i. omega (arith, c.shared_slice_known-1.given i) }
+
+right-picture : (c : After-shared_slice_known-2-1) → Picture c.args.w c.args.h c.args.right.now
+right-picture c = record { bytes = c.requires.side_room.fits.volume.sizes.b-bytes; small = λ i. omega (arith, c.shared_slice_known-2-1.given i) }
+
+-- in block mode a side's cells are one volume
+one-volume : (z : Start) → length z.args.room.now ≡ cells_in z.args.w z.args.h z.args.opts
+one-volume z = z.requires.side_room.cells ∙ rw z.requires.mode_value
+
+pub volume_of-requires : goal.volume_of-requires
+volume_of-requires c = rw (one-volume (goal.at.volume_of-requires c).Start) c.requires.side_room.fits.volume
+
+pub choose_block-requires : goal.choose_block-requires
+choose_block-requires c =
+    let v = c.volume_of in
+    (sized c.requires.side_room.fits, subst (λ (l : List Float). VolumeRanged c.args.w c.args.h c.args.opts l) (sym v.ensures.0) (volume-ranged c.requires.side_room.fits (left-picture (goal.at.choose_block-requires c).After-shared_slice_known-1) (right-picture (goal.at.choose_block-requires c).After-shared_slice_known-2-1) c.args.side))
+
+pub returns : goal.returns
+returns c =
+    let v = c.volume_of in
+    let n = cells_in c.args.w c.args.h c.args.opts in
+    let long = volume-length c.args.w c.args.h c.args.opts c.args.side c.args.left.now c.args.right.now in
+    record {
+      map = c.choose_block.ensures ∙ rw (v.ensures.0, c.requires.mode_value);
+      wholes = v.ensures.1;
+      kept = ap (take n) v.ensures.0 ∙ take_all n _ (omega (arith, long)) ∙ rw c.requires.mode_value;
+    }
