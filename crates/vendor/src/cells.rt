@@ -13,14 +13,14 @@ use numbers::plain::is_finite;
 use options::{BlockMatchOptions, RawCost};
 
 // What a valid cell is asked: whether its own raw cost is fit, or whether that of one index does not beat it.
-#[derive(Drop)]
+#[derive(Clone, Copy)]
 pub enum Question {
     Fit,
     Unbeaten(usize),
 }
 
 // A pixel's index by rows, its column and its row.
-#[derive(Drop)]
+#[derive(Clone, Copy)]
 pub struct Pixel {
     pub p: usize,
     pub x: usize,

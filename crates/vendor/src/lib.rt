@@ -1,6 +1,8 @@
 // A check on the vendor's matcher: whether every valid cell of a whole-pixel map is a disparity of the searched range whose raw cost is
 // not blank, isn't below the least correlation, and is not beaten by that of any other. There is no volume: the products' table is
 // filled for one index after the other, and each cell is held to that index's raw cost.
+#![tactic(auto)]
+
 ghost use Rattle.std.specs.Prelude.{◌≡◌, ◌*◌, ◌/◌, ◌%◌, ◌^◌, ◌<◌, ◌≤◌, cond, eqb, length, drop};
 ghost use Rattle.lists.specs.Lists.{cleared};
 ghost use Rattle.windows.specs.Window.{cells};
@@ -25,7 +27,7 @@ mod cells;
 mod cost;
 
 // The answer: every valid cell is what it should be, or column and row of the first by rows that is not.
-#[derive(Drop)]
+#[derive(Clone, Copy)]
 pub enum Verdict {
     Yes,
     No(usize, usize),
@@ -33,7 +35,7 @@ pub enum Verdict {
 }
 
 // What a map is checked by: the pictures' size, half of the block's side, what is searched, and the least correlation.
-#[derive(Drop)]
+#[derive(Clone, Copy)]
 pub struct Check {
     pub w: usize,
     pub h: usize,
