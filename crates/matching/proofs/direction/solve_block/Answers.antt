@@ -9,15 +9,8 @@ use Rattle.costs.specs.Rooms.{Picture}
 use Rattle.matching.specs.Inner.{cells_in, VolumeRanged}
 use Rattle.matching.proofs.ThirdVolume.{volume-length}
 use Rattle.matching.proofs.Turns.{sized, volume-ranged}
-use Rattle.matching.proofs.direction.solve_block.Goals.{After-shared_slice_known-1, After-shared_slice_known-2-1, Start}
+use Rattle.matching.proofs.direction.solve_block.Goals.{Start}
 use Rattle.matching.proofs.direction.solve_block.Goals as goal
-
--- the two pictures' bytes, as the slices have them
-left-picture : (c : After-shared_slice_known-1) → Picture c.args.w c.args.h c.args.left.now
-left-picture c = record { bytes = c.requires.side_room.fits.volume.sizes.a-bytes; small = λ i. omega (arith, c.shared_slice_known-1.given i) }
-
-right-picture : (c : After-shared_slice_known-2-1) → Picture c.args.w c.args.h c.args.right.now
-right-picture c = record { bytes = c.requires.side_room.fits.volume.sizes.b-bytes; small = λ i. omega (arith, c.shared_slice_known-2-1.given i) }
 
 -- in block mode a side's cells are one volume
 one-volume : (z : Start) → length z.args.room.now ≡ cells_in z.args.w z.args.h z.args.opts
@@ -29,7 +22,10 @@ volume_of-requires c = rw (one-volume (goal.at.volume_of-requires c).Start) c.re
 pub choose_block-requires : goal.choose_block-requires
 choose_block-requires c =
     let v = c.volume_of in
-    (sized c.requires.side_room.fits, subst (λ (l : List Float). VolumeRanged c.args.w c.args.h c.args.opts l) (sym v.ensures.0) (volume-ranged c.requires.side_room.fits (left-picture (goal.at.choose_block-requires c).After-shared_slice_known-1) (right-picture (goal.at.choose_block-requires c).After-shared_slice_known-2-1) c.args.side))
+    let sizes = c.requires.side_room.fits.volume.sizes in
+    let left : Picture c.args.w c.args.h c.args.left.now = record { bytes = sizes.a-bytes; small = λ i. omega (arith, c.type_inv.left i) } in
+    let right : Picture c.args.w c.args.h c.args.right.now = record { bytes = sizes.b-bytes; small = λ i. omega (arith, c.type_inv.right i) } in
+    (sized c.requires.side_room.fits, subst (λ (l : List Float). VolumeRanged c.args.w c.args.h c.args.opts l) (sym v.ensures.0) (volume-ranged c.requires.side_room.fits left right c.args.side))
 
 pub returns : goal.returns
 returns c =
