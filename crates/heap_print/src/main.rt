@@ -1,5 +1,7 @@
 // Reads one request from standard input, matches, and writes the answer: a map, a number given back, or why the input is turned down.
-ghost use Rattle.std.specs.Prelude.{◌≡◌, true, ◌+◌, ◌*◌, ◌≤◌, length};
+#![tactic(auto)]
+
+ghost use Rattle.std.specs.Prelude.{◌≡◌, true, ◌+◌, ◌*◌, ◌≤◌, length, IfOk};
 ghost use Rattle.heap_text.specs.Text.{map_text};
 ghost use Rattle.lists.specs.Stores.{Printed};
 ghost use Rattle.maps.specs.Map.{good_size, valids};
