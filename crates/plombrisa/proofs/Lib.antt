@@ -1,3 +1,2 @@
 -- The theorems of the exports.
 pub mod Outcomes
-pub mod Sites

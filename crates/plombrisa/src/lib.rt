@@ -1,5 +1,7 @@
 // The functions for C and Rust hosts. A slice is its pointer and then its length. Names and order are fixed: nothing checks
 // the declaration on the other side.
+#![tactic(auto)]
+
 pub mod check;
 pub mod file;
 pub mod heap;

@@ -55,7 +55,7 @@ fn tell_filled(answer: Filled, count: &mut u64) -> u32
 }
 
 // Writes the record of each cell that gives a point, rows first; records beyond them are left as they were. 0, or the number of
-// the refusal, which leaves what is lent as it was. A slice of structs is passed on, so this function is proved by hand.
+// the refusal, which leaves what is lent as it was.
 #[unsafe(no_mangle)]
 pub extern "C" fn plombrisa_points(
     cells: &[f32],

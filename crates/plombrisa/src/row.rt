@@ -1,5 +1,4 @@
-// The row index beside a map, for hosts: 0, or the number of the refusal, which leaves what is lent as it was. A slice of structs is
-// passed on, so that the two exports are proved by hand.
+// The row index beside a map, for hosts: 0, or the number of the refusal, which leaves what is lent as it was.
 ghost use Rattle.std.specs.Prelude.{◌≡◌};
 ghost use Rattle.rows.specs.Index.{FreshOutcome, EditOutcome};
 ghost use Rattle.plombrisa.specs.Options.{edit_of};
