@@ -62,7 +62,7 @@ impl Language {
     }
 }
 
-/// The program that a source becomes which is linked with the archive as `rt staticlib` writes it, and so with plombrisa.c.
+/// The program that a source becomes which is linked with the archive as `rt lib` writes it, and so with plombrisa.c.
 pub fn linked(source: &Path, language: &Language, further: &[String]) -> PathBuf {
     let name = source.file_name().expect("a file").to_str().expect("text").replace('.', "_");
     let program = Path::new(env!("CARGO_TARGET_TMPDIR")).join(format!("{name}_{}", language.variable));
