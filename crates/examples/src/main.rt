@@ -1,5 +1,6 @@
 // Document 01's examples that are run: a line for each, `ok` or `WRONG` and what it shows.
 #![tactic(auto)]
+
 use matching::match_block;
 use options::{BlockMatchOptions, Mode};
 use std::io;
@@ -91,14 +92,48 @@ fn gives_map(
 }
 
 // Block sides at their limit and past it, on 31 by 31 pixels.
-fn blocks(rt: &impl Print, level: &[u8], out: &mut [f32], whole: &mut [u64], float: &mut [f32]) -> io::Result<()> {
+fn blocks(
+    rt: &impl Print,
+    level: &[u8],
+    out: &mut [f32],
+    whole: &mut [u64],
+    float: &mut [f32],
+) -> io::Result<()> {
     gives_number(rt, 0, "block 31 fits", 1, 31, 31, level, out, whole, float)?;
-    gives_number(rt, 4, "block 32 gets 4", 1, 32, 31, level, out, whole, float)?;
-    gives_number(rt, 5, "block 33 gets 5", 1, 33, 31, level, out, whole, float)
+    gives_number(
+        rt,
+        4,
+        "block 32 gets 4",
+        1,
+        32,
+        31,
+        level,
+        out,
+        whole,
+        float,
+    )?;
+    gives_number(
+        rt,
+        5,
+        "block 33 gets 5",
+        1,
+        33,
+        31,
+        level,
+        out,
+        whole,
+        float,
+    )
 }
 
 // Counts at their limit and past it, on 3 by 3 pixels.
-fn counts(rt: &impl Print, level: &[u8], out: &mut [f32], whole: &mut [u64], float: &mut [f32]) -> io::Result<()> {
+fn counts(
+    rt: &impl Print,
+    level: &[u8],
+    out: &mut [f32],
+    whole: &mut [u64],
+    float: &mut [f32],
+) -> io::Result<()> {
     gives_number(rt, 0, "count 256 fits", 256, 3, 3, level, out, whole, float)?;
     gives_number(
         rt,
@@ -123,7 +158,13 @@ fn with_penalties(opts: BlockMatchOptions, p1: f32, p2: f32) -> BlockMatchOption
 }
 
 // Penalties the wrong way round, and equal ones, on 3 by 3 pixels.
-fn penalties(rt: &impl Print, level: &[u8], out: &mut [f32], whole: &mut [u64], float: &mut [f32]) -> io::Result<()> {
+fn penalties(
+    rt: &impl Print,
+    level: &[u8],
+    out: &mut [f32],
+    whole: &mut [u64],
+    float: &mut [f32],
+) -> io::Result<()> {
     let opts = with(1, 3, true, false);
     let reversed = with_penalties(opts, 1.0, 0.0);
     let refused = match_block(level, 3, 3, level, 3, 3, reversed, out, whole, float);
@@ -194,7 +235,14 @@ fn printed(
 }
 
 // Pictures of one level, semi-global: 0 in the inner frame.
-fn one_level(rt: &impl Print, map: &[f32], level: &[u8], out: &mut [f32], whole: &mut [u64], float: &mut [f32]) -> io::Result<()> {
+fn one_level(
+    rt: &impl Print,
+    map: &[f32],
+    level: &[u8],
+    out: &mut [f32],
+    whole: &mut [u64],
+    float: &mut [f32],
+) -> io::Result<()> {
     let off = with(2, 3, true, false);
     gives_map(
         rt,

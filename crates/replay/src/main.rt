@@ -1,5 +1,7 @@
 // Replays a stored sample of the Rust's answers (data/README.md) and prints how many maps and cells were compared, and how many
 // cells differ. A map that is refused, or a file that is cut, counts as a difference.
+#![tactic(auto)]
+
 ghost use Rattle.std.specs.Prelude.{◌+◌, ◌*◌, ◌≤◌, ◌<◌, length};
 
 use matching::match_block;
