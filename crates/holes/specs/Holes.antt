@@ -1,4 +1,4 @@
--- Holes, and semi-global choice that keeps them (docs/SPECIFICATION.md, "Semi-global choice that keeps its holes"). Definitions only.
+-- Holes, and semi-global choice that keeps them: what the begun request of docs/W-207-begun.patch asks. Definitions only.
 use Rattle.std.specs.Prelude.{ℕ, ◌+◌, ◌*◌, Bool, true, false, cond, List, pos, get_or, Float}
 use Rattle.std.specs.Float.{nan, fin}
 use Rattle.lists.specs.Lists.{list_of, all_below}
