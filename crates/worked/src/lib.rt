@@ -1,1 +1,2 @@
 // Document 01's worked examples, of the definitions: specs/ has the table, proofs/ the theorem that it holds. There is no code.
+#![tactic(auto)]
