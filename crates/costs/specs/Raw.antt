@@ -23,7 +23,7 @@ pixels r = (2 * r + 1) * (2 * r + 1)
 unfoldable pub window_var : ℕ → List ℕ → ℕ → ℕ → ℕ → ℕ
 window_var w a x y r = variance_of (pixels r) (window_sum (level_at w a) x y r) (window_sum (square_at w a) x y r)
 
--- n·Sab - Sa-as-Sb of the window centred at (x, y) of a and the one centred at (x', y) of b, which lies s columns further right
+-- n·Sab - Sa·Sb of the window centred at (x, y) of a and the one centred at (x', y) of b, which lies s columns further right
 unfoldable pub window_cov : ℕ → List ℕ → List ℕ → ℤ → ℕ → ℕ → ℕ → ℕ → ℤ
 window_cov w a b s x x' y r =
     covariance_of (pixels r) (window_sum (level_at w a) x y r) (window_sum (level_at w b) x' y r) (window_sum (cross_at w a b s) x y r)

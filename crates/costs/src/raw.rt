@@ -23,7 +23,7 @@ fn counted(n: u64) -> f64
     ((n % 0x1_0000_0000) as u32) as f64
 }
 
-// typeof.n.Sab - Sa.Sb, of the sums and the sum of products of two windows of n levels: f64 counts each step.
+// n·Sab - Sa·Sb, of the sums and the sum of products of two windows of n levels: f64 counts each step.
 fn covariance(n: u64, sum_a: u64, sum_b: u64, products: u64) -> f64
     requires { CountsExactly n sum_a sum_b products }
     ensures { result ≡ of_int binary64 (covariance_of n sum_a sum_b products) }

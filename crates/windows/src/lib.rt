@@ -198,7 +198,7 @@ pub fn window_sum(table: &[u64], side: usize, at: usize, n: usize) -> u64
     right - left
 }
 
-// typeof.n.Saa - Sa², of the sum and the sum of squares of a window's n levels.
+// n·Saa - Sa², of the sum and the sum of squares of a window's n levels.
 pub fn variance(n: u64, sum: u64, squares: u64) -> u64
     requires { (n * squares < 2 ^ 53) × (sum * sum ≤ n * squares) }
     ensures { result ≡ variance_of n sum squares }

@@ -30,7 +30,7 @@ unfolding plan_of asked
 returns-then-q-gt24 c =
     let k = (goal.at.returns-then-q-gt24 c).In-Sound in
     let q = asked k in
-    rw (read_as k, lt-ltb 24 q.width c.if-q-gt24.true)
+    rw (read_as k, lt-ltb 24 q.width (omega (arith, c.if-q-gt24.true)))
 
 pub returns-then-q-gt16 : goal.returns-then-q-gt16
 unfolding plan_of asked
