@@ -1,5 +1,5 @@
 -- What it means that no row applies. Assumes nothing.
-use Prim.Native.Nat.{ℕ, ◌+◌, ◌*◌, ◌≤◌}
+use Prim.Native.Nat.{◌+◌, ◌*◌, ◌≤◌}
 use mathlib.Core.Path.{◌≡◌, sym, ap₂, ◌∙◌}
 use mathlib.Core.List.{List, ◌++◌}
 use native.Mathlib.Nat.{mul-le-mul}
@@ -12,7 +12,10 @@ use Rattle.options.specs.Limits.{side_most, block_most, most_count}
 use Rattle.options.proofs.Frames.{leaves}
 use Rattle.calls.specs.declared.Call.{Call}
 use Rattle.refusals.specs.Answered.{Row, first_of, Numbered}
-use Rattle.refusals.proofs.Groups.{by_first, by-rest, by-second, none-of-both, both-numbered, passed}
+use Rattle.refusals.specs.declared.Refusal.{Refusal}
+use Rattle.refusals.specs.Numbers.{number_of}
+use Rattle.refusals.proofs.Groups.{by_first, by-rest, none-of-both, both-numbered, passed}
+use Rattle.refusals.proofs.Numbers.{some}
 use Rattle.calls.specs.Refusals.{in_range, picture_rows, search_rows, pair_rows, penalty_rows, whole_cells_of, float_cells, out_rows, room_rows, table, refusal}
 use Rattle.calls.specs.Accepted.{Sizes, Accepted}
 use Rattle.calls.proofs.Tests.{ranged, positive, at_most, near}
@@ -57,41 +60,51 @@ pub table-numbered : (q : Call) → Numbered (table q)
 unfolding table
 table-numbered q = both-numbered (to_output q) (room_rows q) (to-output q) (room-numbered q)
 
+-- rows after rows: what the first refuse all refuse, and where they refuse nothing the rest decide
+module _ (a b : List Row) (n : Numbered a) where
+  refused_by : (e : Refusal) → number_of e ≡ first_of a → number_of e ≡ first_of (a ++ b)
+  refused_by e same = by_first a b n (number_of e) same (λ none. omega (arith, some e))
+
+  rest_of : 0 ≡ first_of a → first_of b ≡ first_of (a ++ b)
+  rest_of none = sym (by-rest a b n (sym none))
+
 -- rows 1 to 9: two groups
 module _ (q : Call) where
-  pub by-pictures : (m : ℕ) → m ≡ first_of (picture_rows q) → (m ≡ 0 → ⊥) → m ≡ first_of (pair_rows q)
-  by-pictures = by_first (picture_rows q) (search_rows q) (pictures-numbered q)
+  pub pair_refused : (e : Refusal) → number_of e ≡ first_of (picture_rows q) → number_of e ≡ first_of (pair_rows q)
+  pair_refused = refused_by (picture_rows q) (search_rows q) (pictures-numbered q)
 
-  pub by-search : first_of (picture_rows q) ≡ 0 → (m : ℕ) → m ≡ first_of (search_rows q) → m ≡ first_of (pair_rows q)
-  by-search = by-second (picture_rows q) (search_rows q) (pictures-numbered q)
+  pub pair_rest : 0 ≡ first_of (picture_rows q) → first_of (search_rows q) ≡ first_of (pair_rows q)
+  pair_rest = rest_of (picture_rows q) (search_rows q) (pictures-numbered q)
 
 -- all rows: those, and three groups more
 module _ (q : Call) where
-  -- a number of the rows before the rooms' is the number of all
-  of_output : (m : ℕ) → m ≡ first_of (to_output q) → (m ≡ 0 → ⊥) → m ≡ refusal q
+  pub refused_output : (e : Refusal) → number_of e ≡ first_of (to_output q) → number_of e ≡ refusal q
   unfolding refusal table
-  of_output = by_first (to_output q) (room_rows q) (to-output q)
+  refused_output = refused_by (to_output q) (room_rows q) (to-output q)
 
-  of-penalties : (m : ℕ) → m ≡ first_of (to_penalties q) → (m ≡ 0 → ⊥) → m ≡ refusal q
-  of-penalties m e some = of_output m (by_first (to_penalties q) (out_rows q) (to-penalties q) m e some) some
+  refused_penalties : (e : Refusal) → number_of e ≡ first_of (to_penalties q) → number_of e ≡ refusal q
+  refused_penalties e same = refused_output e (refused_by (to_penalties q) (out_rows q) (to-penalties q) e same)
 
-  pub by-pair : (m : ℕ) → m ≡ first_of (pair_rows q) → (m ≡ 0 → ⊥) → m ≡ refusal q
-  by-pair m e some = of-penalties m (by_first (pair_rows q) (penalty_rows q) (pair-numbered q) m e some) some
+  pub by_pair : (e : Refusal) → number_of e ≡ first_of (pair_rows q) → number_of e ≡ refusal q
+  by_pair e same = refused_penalties e (refused_by (pair_rows q) (penalty_rows q) (pair-numbered q) e same)
 
-  module _ (p : first_of (pair_rows q) ≡ 0) where
-    pub by-penalty : (m : ℕ) → m ≡ first_of (penalty_rows q) → (m ≡ 0 → ⊥) → m ≡ refusal q
-    by-penalty m e some = of-penalties m (by-second (pair_rows q) (penalty_rows q) (pair-numbered q) p m e) some
+  module _ (p : 0 ≡ first_of (pair_rows q)) where
+    to_penalties_rest : first_of (penalty_rows q) ≡ first_of (to_penalties q)
+    to_penalties_rest = rest_of (pair_rows q) (penalty_rows q) (pair-numbered q) p
 
-    module _ (t : first_of (penalty_rows q) ≡ 0) where
-      none-to-penalties : first_of (to_penalties q) ≡ 0
-      none-to-penalties = by-rest (pair_rows q) (penalty_rows q) (pair-numbered q) p ∙ t
+    pub by_penalty : (e : Refusal) → number_of e ≡ first_of (penalty_rows q) → number_of e ≡ refusal q
+    by_penalty e same = refused_penalties e (same ∙ to_penalties_rest)
 
-      pub by-output : (m : ℕ) → m ≡ first_of (out_rows q) → (m ≡ 0 → ⊥) → m ≡ refusal q
-      by-output m e some = of_output m (by-second (to_penalties q) (out_rows q) (to-penalties q) none-to-penalties m e) some
+    module _ (t : 0 ≡ first_of (penalty_rows q)) where
+      to_output_rest : first_of (out_rows q) ≡ first_of (to_output q)
+      to_output_rest = rest_of (to_penalties q) (out_rows q) (to-penalties q) (t ∙ to_penalties_rest)
 
-      pub by-rooms : first_of (out_rows q) ≡ 0 → (m : ℕ) → m ≡ first_of (room_rows q) → m ≡ refusal q
+      pub by_output : (e : Refusal) → number_of e ≡ first_of (out_rows q) → number_of e ≡ refusal q
+      by_output e same = refused_output e (same ∙ to_output_rest)
+
+      pub by_rooms : 0 ≡ first_of (out_rows q) → first_of (room_rows q) ≡ refusal q
       unfolding refusal table
-      by-rooms o = by-second (to_output q) (room_rows q) (to-output q) (by-rest (to_penalties q) (out_rows q) (to-penalties q) none-to-penalties ∙ o)
+      by_rooms o = rest_of (to_output q) (room_rows q) (to-output q) (o ∙ to_output_rest)
 
   -- no row of any group applies
   pub record None : Type 0 where

@@ -1,20 +1,22 @@
-// What a match or a raw volume asks for and lends, and the numbers given back (document 01, "Numbers given back"), in the table's
-// order; 0 is none.
-#![tactic(auto)]
+// What a match or a raw volume asks for and lends, and the reasons to refuse it (docs/SPECIFICATION.md, "Numbers given back"), in the
+// table's order.
+#![tactic(auto, unfolding(refusals::specs::Answered::first_of, crate::specs::Refusals::picture_rows, crate::specs::Refusals::search_rows, crate::specs::Refusals::penalty_rows, crate::specs::Refusals::out_rows, crate::specs::Refusals::room_rows))]
 
 ghost use Rattle.std.specs.Prelude.{◌≡◌};
 ghost use Rattle.options.specs.Limits.{is_penalty};
 ghost use Rattle.refusals.specs.Answered.{first_of};
-ghost use Rattle.calls.specs.Refusals.{in_range, picture_rows, search_rows, pair_rows, penalty_rows, volume, out_cells_of, float_cells, out_rows, room_rows, refusal};
+ghost use Rattle.refusals.specs.Given.{number_in};
+ghost use Rattle.calls.specs.Refusals.{in_range, picture_rows, search_rows, pair_rows, by_paths, penalty_rows, area, volume, out_cells_of, whole_cells_of, float_cells, out_rows, room_rows, refusal};
 ghost use Rattle.calls.specs.Accepted.{Sizes};
 
 use options::{
     COUNT_MOST, FIRST_MOST, Mode, PENALTY_MOST, is_block_even, is_block_large, is_side,
     is_too_small,
 };
+use refusals::Refusal;
 
 // What a call's output is to hold: the raw volume, or a map.
-#[derive(Clone, Copy)]
+#[derive(Clone, Copy, Debug, PartialEq, Eq)]
 pub enum Output {
     Volume,
     Map,
@@ -49,183 +51,182 @@ pub struct Call {
 fn in_range(w: usize, h: usize) -> bool
     ensures { result ≡ in_range w h }
 {
-    if is_side(w) { is_side(h) } else { false }
-}
-
-// Rows 1 to 3: width, height and byte count of each picture.
-fn picture_refusal(call: Call) -> u32
-    ensures { result ≡ first_of (picture_rows call) }
-{
-    if !in_range(call.left_w, call.left_h) {
-        return 1;
-    }
-    if !in_range(call.right_w, call.right_h) {
-        return 1;
-    }
-    if call.left_bytes != call.left_w * call.left_h {
-        return 2;
-    }
-    if call.right_bytes != call.right_w * call.right_h {
-        return 2;
-    }
-    if call.left_w != call.right_w {
-        return 3;
-    }
-    if call.left_h != call.right_h {
-        return 3;
-    }
-    0
-}
-
-// Rows 4 to 9: block side, count, size of the pictures and first disparity.
-fn search_refusal(call: Call) -> u32
-    ensures { result ≡ first_of (search_rows call) }
-{
-    if is_block_even(call.block) {
-        return 4;
-    }
-    if is_block_large(call.block) {
-        return 5;
-    }
-    if call.count < 1 {
-        return 6;
-    }
-    if COUNT_MOST < call.count {
-        return 7;
-    }
-    if is_too_small(call.left_w, call.left_h, call.block) {
-        return 8;
-    }
-    if call.first < -FIRST_MOST {
-        return 9;
-    }
-    if FIRST_MOST < call.first {
-        return 9;
-    }
-    0
-}
-
-// Rows 1 to 9: the pair and what is searched in it.
-pub fn pair_refusal(call: Call) -> u32
-    ensures { result ≡ first_of (pair_rows call) }
-{
-    let pictures = picture_refusal(call);
-    if pictures != 0 {
-        return pictures;
-    }
-    search_refusal(call)
+    is_side(w) && is_side(h)
 }
 
 // A number from 0 to the largest penalty.
 fn is_penalty(p: f32) -> bool
     ensures { result ≡ is_penalty p }
 {
-    if 0.0 <= p { p <= PENALTY_MOST } else { false }
+    0.0 <= p && p <= PENALTY_MOST
 }
 
-// Rows 10 and 13: the penalties, which only a map along paths reads.
-fn penalty_refusal(call: Call) -> u32
-    ensures { result ≡ first_of (penalty_rows call) }
-{
-    let output = call.output;
-    let Output::Map = output else {
-        return 0;
-    };
-    let mode = call.mode;
-    if mode.uses_paths() {
-        if !is_penalty(call.p1) {
-            return 10;
+impl Call {
+    // Rows 1 to 3: width, height and byte count of each picture.
+    fn check_pictures(self) -> Result<(), Refusal>
+        ensures { number_in result ≡ first_of (picture_rows self) }
+    {
+        if !in_range(self.left_w, self.left_h) || !in_range(self.right_w, self.right_h) {
+            return Err(Refusal::SizeOutOfRange);
         }
-        if !is_penalty(call.p2) {
-            return 10;
+        if self.left_bytes != self.left_w * self.left_h
+            || self.right_bytes != self.right_w * self.right_h
+        {
+            return Err(Refusal::ByteCount);
         }
-        if call.p2 < call.p1 {
-            return 13;
+        if self.left_w != self.right_w || self.left_h != self.right_h {
+            return Err(Refusal::SizesDiffer);
+        }
+        Ok(())
+    }
+
+    // Rows 4 to 9: block side, count, size of the pictures and first disparity.
+    fn check_search(self) -> Result<(), Refusal>
+        ensures { number_in result ≡ first_of (search_rows self) }
+    {
+        if is_block_even(self.block) {
+            return Err(Refusal::BlockEven);
+        }
+        if is_block_large(self.block) {
+            return Err(Refusal::BlockTooLarge);
+        }
+        if self.count < 1 {
+            return Err(Refusal::CountNotPositive);
+        }
+        if self.count > COUNT_MOST {
+            return Err(Refusal::CountTooLarge);
+        }
+        if is_too_small(self.left_w, self.left_h, self.block) {
+            return Err(Refusal::PictureSmallerThanBlock);
+        }
+        if self.first < -FIRST_MOST || FIRST_MOST < self.first {
+            return Err(Refusal::FirstOutOfRange);
+        }
+        Ok(())
+    }
+
+    // Rows 1 to 9: the pair and what is searched in it.
+    pub fn check_pair(self) -> Result<(), Refusal>
+        ensures { number_in result ≡ first_of (pair_rows self) }
+    {
+        self.check_pictures()?;
+        self.check_search()
+    }
+
+    // Whether the penalties are read: only a map along paths reads them.
+    fn uses_penalties(self) -> bool
+        ensures { result ≡ by_paths self.output self.mode }
+    {
+        match self.output {
+            Output::Volume => false,
+            Output::Map => self.mode.uses_paths(),
         }
     }
-    0
-}
 
-// V = count·w·h.
-fn volume_cells(call: Call) -> usize
-    requires { Sizes call }
-    ensures { result ≡ volume call }
-{
-    let area = call.left_w * call.left_h;
-    call.count as usize * area
-}
+    // Rows 10 and 13: the penalties.
+    fn check_penalties(self) -> Result<(), Refusal>
+        ensures { number_in result ≡ first_of (penalty_rows self) }
+    {
+        if self.uses_penalties() {
+            if !is_penalty(self.p1) || !is_penalty(self.p2) {
+                return Err(Refusal::PenaltyOutOfRange);
+            }
+            if self.p2 < self.p1 {
+                return Err(Refusal::PenaltiesReversed);
+            }
+        }
+        Ok(())
+    }
 
-// The cells that the output has: V for the raw volume, w·h for a map.
-fn out_cells(call: Call) -> usize
-    requires { Sizes call }
-    ensures { result ≡ out_cells_of call call.output }
-{
-    let output = call.output;
-    match output {
-        Output::Volume => volume_cells(call),
-        Output::Map => call.left_w * call.left_h,
+    // w·h.
+    fn area(self) -> usize
+        requires { Sizes self }
+        ensures { result ≡ area self }
+    {
+        self.left_w * self.left_h
+    }
+
+    // V = count·w·h.
+    fn volume(self) -> usize
+        requires { Sizes self }
+        ensures { result ≡ volume self }
+    {
+        self.count as usize * self.area()
+    }
+
+    // The cells that the output has: V for the raw volume, w·h for a map.
+    fn out_cells(self) -> usize
+        requires { Sizes self }
+        ensures { result ≡ out_cells_of self self.output }
+    {
+        match self.output {
+            Output::Volume => self.volume(),
+            Output::Map => self.area(),
+        }
+    }
+
+    // The cells that the whole-number room needs: five tables of (w+1)(h+1).
+    fn whole_cells(self) -> usize
+        requires { Sizes self }
+        ensures { result ≡ whole_cells_of self }
+    {
+        5 * ((self.left_w + 1) * (self.left_h + 1))
+    }
+
+    // The cells that the float room needs: none for the raw volume, V + w·h for a block map, 3V + w·h for a semi-global one.
+    pub fn float_cells(self) -> usize
+        requires { Sizes self }
+        ensures { result ≡ float_cells self self.output }
+    {
+        match self.output {
+            Output::Volume => 0,
+            Output::Map => {
+                let volumes = if self.mode.uses_paths() { 3 } else { 1 };
+                volumes * self.volume() + self.area()
+            }
+        }
+    }
+
+    // Row 11: the length of the output.
+    fn check_output(self) -> Result<(), Refusal>
+        requires { Sizes self }
+        ensures { number_in result ≡ first_of (out_rows self) }
+    {
+        if self.out_len != self.out_cells() {
+            return Err(Refusal::OutputLength);
+        }
+        Ok(())
+    }
+
+    // Row 12: the lengths of the rooms.
+    fn check_rooms(self) -> Result<(), Refusal>
+        requires { Sizes self }
+        ensures { number_in result ≡ first_of (room_rows self) }
+    {
+        if self.whole_len < self.whole_cells() || self.float_len < self.float_cells() {
+            return Err(Refusal::RoomTooShort);
+        }
+        Ok(())
+    }
+
+    // All rows: the first that applies is the refusal.
+    pub fn check(self) -> Result<(), Refusal>
+        ensures { number_in result ≡ refusal self }
+    {
+        self.check_pair()?;
+        self.check_penalties()?;
+        self.check_output()?;
+        self.check_rooms()
     }
 }
 
-// The cells that the float room needs: none for the raw volume, V + w·h for a block map, 3V + w·h for a semi-global one.
-pub fn float_cells(call: Call) -> usize
-    requires { Sizes call }
-    ensures { result ≡ float_cells call call.output }
-{
-    let output = call.output;
-    let Output::Map = output else {
-        return 0;
-    };
-    let volume = volume_cells(call);
-    let area = call.left_w * call.left_h;
-    let mode = call.mode;
-    if mode.uses_paths() {
-        3 * volume + area
-    } else {
-        volume + area
-    }
-}
-
-// Row 11: the length of the output.
-fn out_refusal(call: Call) -> u32
-    requires { Sizes call }
-    ensures { result ≡ first_of (out_rows call) }
-{
-    if call.out_len != out_cells(call) {
-        return 11;
-    }
-    0
-}
-
-// Row 12: the lengths of the rooms.
-fn room_refusal(call: Call) -> u32
-    requires { Sizes call }
-    ensures { result ≡ first_of (room_rows call) }
-{
-    if call.whole_len < 5 * ((call.left_w + 1) * (call.left_h + 1)) {
-        return 12;
-    }
-    if call.float_len < float_cells(call) {
-        return 12;
-    }
-    0
-}
-
-// The number of the first row that applies.
+// The number that hosts are given: that of the first row that applies, 0 for none. It stays beside `Call::check`, because
+// docs/STATEMENTS.md has it among the public calls.
 pub fn refusal(call: Call) -> u32
     ensures { result ≡ refusal call }
 {
-    let pair = pair_refusal(call);
-    if pair != 0 {
-        return pair;
+    match call.check() {
+        Ok(()) => 0,
+        Err(reason) => u32::from(reason),
     }
-    let penalties = penalty_refusal(call);
-    if penalties != 0 {
-        return penalties;
-    }
-    let output = out_refusal(call);
-    if output != 0 {
-        return output;
-    }
-    room_refusal(call)
 }

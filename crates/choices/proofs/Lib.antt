@@ -1,18 +1,15 @@
 -- The lemmas that several functions' proofs cite, and what the walks find.
-pub mod Indices
 pub mod Signed
-pub mod Shifting
 pub mod Sides
 pub mod Columns
 pub mod Costs
-pub mod Halves
+pub mod Own
 pub mod Stepping
 pub mod Parts
 pub mod Spans
 pub mod IndexFloats
 pub mod LedRows
 pub mod Chosen
-pub mod Finishing
 pub mod MapRows
 pub mod Walking
 pub mod Largest

@@ -1,35 +1,13 @@
 -- The disparity with an index, as a sum of signed numbers: small enough for every type on its way to a float. Assumes nothing.
-use Rattle.std.proofs.Common.{◌≡◌, ℕ, ◌+◌, ◌^◌, ◌<◌, ◌≤◌, T, ℤ, pos, negsuc, ◌+ℤ◌, nat_abs, ◌∙◌, le_trans, arith, le→leb, lt→ltb, w32, SFits, to_z, of_z}
+use Rattle.std.proofs.Common.{ℕ, ◌+◌, ◌^◌, ◌≤◌, T, ℤ, pos, negsuc, ◌+ℤ◌, nat_abs, le_trans, arith, le→leb, lt→ltb}
 use lib.Ieee.{binary32, in_float}
-use Rattle.options.specs.Limits.{most_count, first_most}
 use Rattle.lists.proofs.Sizes.{sum-size}
-use mir.ValLaws.{to_z-of_z, to_z_pos}
 
 pub sum-nat_abs : (z : ℤ) (k b : ℕ) → nat_abs z + k ≤ b → nat_abs (z +ℤ pos k) ≤ b
 sum-nat_abs z k b h = le_trans (sum-size z (pos k)) h
-
--- 2^24, to which an f32 counts, is more than any disparity
-pub fits-of : (z : ℤ) → nat_abs z ≤ 2 ^ 24 → SFits w32 z
-fits-of (pos a) h = record { sfits = omega arith }
-fits-of (negsuc a) h = record { sfits = omega arith }
 
 -- a float holds a small number exactly
 pub float_of : (z : ℤ) → nat_abs z ≤ 2 ^ 24 → T (in_float binary32 z)
 unfolding in_float
 float_of (pos a) h = le→leb a (2 ^ 24) (omega arith)
 float_of (negsuc a) h = lt→ltb a (2 ^ 24) (omega arith)
-
-module _ (first : ℤ) (k : ℕ) (back : to_z w32 (of_z w32 first) ≡ first) (small : nat_abs first ≤ first_most) (few : k < most_count) where
-  pub sum-small : nat_abs (first +ℤ pos k) ≤ 2 ^ 24
-  sum-small = sum-nat_abs first k (2 ^ 24) (omega arith)
-
-  read : to_z w32 (of_z w32 first) +ℤ to_z w32 k ≡ first +ℤ pos k
-  read = rw (back, to_z_pos w32 k (omega arith))
-
-  -- what the machine adds fits
-  pub sum_fits : SFits w32 (to_z w32 (of_z w32 first) +ℤ to_z w32 k)
-  sum_fits = rw read (fits-of (first +ℤ pos k) sum-small)
-
-  -- and is the sum
-  pub sum-read : to_z w32 (of_z w32 (to_z w32 (of_z w32 first) +ℤ to_z w32 k)) ≡ first +ℤ pos k
-  sum-read = to_z-of_z w32 _ sum_fits ∙ read

@@ -1,5 +1,5 @@
 -- Where the cells of an index of a row lie in the volume, and that they are the row's numbers. Assumes nothing.
-use Rattle.std.proofs.Common.{◌≡◌, ℕ, zero, suc, ◌+◌, ◌-◌, ◌*◌, ◌<◌, ◌≤◌, min, Bool, true, false, cond, ltb, leb, List, length, get_or, take, drop, ℤ, pos, negsuc, ◌+ℤ◌, neg_ℤ, sym, refl, ap, ◌∙◌, ⊎_elim, mul_comm, mul-le-mul, arith, length-take, get_or-drop, get_or-take, le-ltb, lt-ltb, le-leb}
+use Rattle.std.proofs.Common.{◌≡◌, ℕ, zero, suc, ◌+◌, ◌-◌, ◌*◌, ◌<◌, ◌≤◌, min, Bool, true, false, cond, ltb, leb, List, length, get_or, take, drop, ℤ, pos, negsuc, ◌+ℤ◌, neg_ℤ, refl, ap, ◌∙◌, ⊎_elim, mul_comm, mul-le-mul, arith, length-take, get_or-drop, get_or-take, le-ltb, lt-ltb, le-leb}
 use native.Mathlib.Nat.{min-le_right, min-eq_left, le-min}
 use borrow.Author.Tests.{lt-leb}
 use lib.Ieee.{Float, nan, inf, eq}
@@ -12,6 +12,8 @@ use Rattle.options.specs.Limits.{side_most, most_count}
 use Rattle.options.specs.Costs.{raw_of, InRange}
 use Rattle.choices.specs.declared.block.Row.{Row}
 use Rattle.choices.specs.declared.block.Shift.{Shift}
+use Rattle.choices.specs.declared.block.Seen.{Seen}
+use Rattle.choices.specs.declared.block.Seen.TheVariants.{Own, Turned}
 use Rattle.choices.specs.declared.block.Span.{Span}
 use Rattle.choices.specs.declared.subpixel.Search.{Search}
 use Rattle.choices.specs.Seen.{RowSizes, RowIn, CellsInRange, seen_cell, cell_in, moved_by, seen_shift, row_start, seen_span, part_at}
@@ -25,9 +27,9 @@ moved-within : (w : ℕ) (d : ℤ) → Within w (moved_by w d)
 moved-within w (pos a) = record { both = omega (arith, min-le_right a w) }
 moved-within w (negsuc a) = record { both = omega (arith, min-le_right (suc a) w) }
 
-pub shift-within : (turned : Bool) (w : ℕ) (first : ℤ) (k : ℕ) → Within w (seen_shift turned w first k)
-shift-within false w first k = record { both = omega arith }
-shift-within true w first k = moved-within w (first +ℤ pos k)
+pub shift-within : (seen : Seen) (w : ℕ) (first : ℤ) (k : ℕ) → Within w (seen_shift seen w first k)
+shift-within Own w first k = record { both = omega arith }
+shift-within Turned w first k = moved-within w (first +ℤ pos k)
 
 -- the products on the way to a cell are small, and the row ends within the volume
 pub record Places (row : Row) (search : Search) (k : ℕ) : Type 0 where
@@ -55,13 +57,18 @@ part_in : (lo n s x : ℕ) (raw : List Float) → lo ≤ x → x - lo < n → pa
 unfolding part_at
 part_in lo n s x raw l m = rw (le-leb lo x l) (get_or-take n (drop s raw) (x - lo) (inf true) m ∙ get_or-drop s raw (x - lo) (inf true))
 
-part_left : (lo x : ℕ) (part : List Float) → x < lo → part_at lo part x ≡ inf true
+-- left of the part, in it, and right of it
+pub part-left : (lo x : ℕ) (part : List Float) → x < lo → part_at lo part x ≡ inf true
 unfolding part_at
-part_left lo x part l = rw (lt-leb lo x l)
+part-left lo x part l = rw (lt-leb lo x l)
 
-part_right : (lo n x : ℕ) (part : List Float) → lo ≤ x → n ≤ x - lo → part_at lo (take n part) x ≡ inf true
+pub part-at : (lo x : ℕ) (part : List Float) → lo ≤ x → x - lo < length part → part_at lo part x ≡ get_or part (x - lo) nan
 unfolding part_at
-part_right lo n x part l m = rw (le-leb lo x l) (get_or-eq_default (take n part) (inf true) (rw length-take (omega arith)))
+part-at lo x part l m = rw (le-leb lo x l) (default_free part (x - lo) (inf true) nan m)
+
+pub part-past : (lo x : ℕ) (part : List Float) → lo ≤ x → length part ≤ x - lo → part_at lo part x ≡ inf true
+unfolding part_at
+part-past lo x part l m = rw (le-leb lo x l) (get_or-eq_default part (inf true) m)
 
 -- the column a further left
 column-outside : (x a : ℕ) → x < a → pos x +ℤ neg_ℤ (pos a) ≡ negsuc (a - suc x)
@@ -79,7 +86,7 @@ module _ (raw : List Float) (w base x : ℕ) (lx : x < w) where
   unfolding in_row
   moved-reads (pos a) =
       ⊎_elim
-      (λ (l : x < a). rw (column-outside x a l) (part_left (min a w) x _ (lt-min l)))
+      (λ (l : x < a). rw (column-outside x a l) (part-left (min a w) x _ (lt-min l)))
       (λ (l : a ≤ x).
       let lo : min a w ≡ a = min-eq_left (omega arith) in
       let inside : x - a < base + (w - a) - (base + 0) = omega arith in
@@ -98,7 +105,7 @@ module _ (raw : List Float) (w base x : ℕ) (lx : x < w) where
       rw (lt-ltb (x + suc b) w l, from)
       (part_in 0 _ (base + suc b) x raw (omega arith) inside ∙ ap (λ c. get_or raw c (inf true)) (omega arith)))
       (λ (l : w ≤ x + suc b).
-      rw (le-ltb (x + suc b) w l) (part_right 0 _ x _ (omega arith) (past l)))
+      rw (le-ltb (x + suc b) w l) (part-past 0 x _ (omega arith) (rw length-take (omega (arith, past l)))))
       (lt-or-le (x + suc b) w)
     where
       past : w ≤ x + suc b → base + (w - 0) - (base + min (suc b) w) ≤ x - 0
@@ -117,7 +124,7 @@ lent_of row search raw k = take ((seen_span row search k).to - (seen_span row se
 module _ (raw : List Float) (w h : ℕ) (first : ℤ) (y k x : ℕ) (lx : x < w) where
   -- the volume as it stands
   own-reads : k * (w * h) + y * w + w ≤ length raw
-      → part_at 0 (take (k * (w * h) + y * w + (w - 0) - (k * (w * h) + y * w + 0)) (drop (k * (w * h) + y * w + 0) raw)) x ≡ seen_cell false w h first raw k (y * w + x)
+      → part_at 0 (take (k * (w * h) + y * w + (w - 0) - (k * (w * h) + y * w + 0)) (drop (k * (w * h) + y * w + 0) raw)) x ≡ seen_cell Own w h first raw k (y * w + x)
   unfolding seen_cell
   own-reads l =
       let base = k * (w * h) + y * w in
@@ -128,7 +135,7 @@ module _ (raw : List Float) (w h : ℕ) (first : ℤ) (y k x : ℕ) (lx : x < w)
 
   -- the volume turned
   turned-reads : part_at (moved_by w (first +ℤ pos k)).lo (take (k * (w * h) + y * w + (w - (moved_by w (first +ℤ pos k)).lo) - (k * (w * h) + y * w + (moved_by w (first +ℤ pos k)).from)) (drop (k * (w * h) + y * w + (moved_by w (first +ℤ pos k)).from) raw)) x
-      ≡ seen_cell true w h first raw k (y * w + x)
+      ≡ seen_cell Turned w h first raw k (y * w + x)
   unfolding seen_cell turned_cell
   turned-reads =
       moved-reads raw w (k * (w * h) + y * w) x lx (first +ℤ pos k)
@@ -137,14 +144,14 @@ module _ (raw : List Float) (w h : ℕ) (first : ℤ) (y k x : ℕ) (lx : x < w)
 -- a span holds the row's numbers
 pub span-reads : (row : Row) (search : Search) (raw : List Float) (k x : ℕ) → RowIn row search raw → k < search.count → x < row.w
     → part_at (seen_span row search k).lo (lent_of row search raw k) x ≡ cell_in row search raw x k
-span-reads row search raw k x z l lx = go row.turned refl
+span-reads row search raw k x z l lx = go row.seen refl
   where
     within : row_start row k + row.w ≤ length raw
     within = omega (arith, (places row search k z.sizes l).ends, z.planes)
 
-    go : (t : Bool) → row.turned ≡ t → part_at (seen_span row search k).lo (lent_of row search raw k) x ≡ cell_in row search raw x k
-    go false e = rw e (own-reads raw row.w row.h search.first row.y k x lx within)
-    go true e = rw e (turned-reads raw row.w row.h search.first row.y k x lx)
+    go : (t : Seen) → row.seen ≡ t → part_at (seen_span row search k).lo (lent_of row search raw k) x ≡ cell_in row search raw x k
+    go Own e = rw e (own-reads raw row.w row.h search.first row.y k x lx within)
+    go Turned e = rw e (turned-reads raw row.w row.h search.first row.y k x lx)
 
 -- what is lent for index k of a row is there, fits into the row, and holds the row's numbers
 pub record Lent (row : Row) (search : Search) (raw : List Float) (k : ℕ) (s : Span) : Type 0 where
@@ -156,28 +163,9 @@ pub record Lent (row : Row) (search : Search) (raw : List Float) (k : ℕ) (s : 
 pub lent : (row : Row) (search : Search) (raw : List Float) (k : ℕ) (s : Span) → s ≡ seen_span row search k → RowIn row search raw → k < search.count → Lent row search raw k s
 lent row search raw k s e z l =
     let p = places row search k z.sizes l in
-    let s = shift-within row.turned row.w search.first k in
+    let s = shift-within row.seen row.w search.first k in
     let long = mid_len (seen_span row search k).from (seen_span row search k).to raw (omega (arith, z.planes)) in
     rw e record { starts = omega arith; ends = omega (arith, z.planes); fits = omega (arith, long); reads = λ x lx. span-reads row search raw k x z l lx }
-
--- ---- one number of the row, from the span
-
-module _ {row : Row} {search : Search} {raw : List Float} {k : ℕ} {s : Span} {x : ℕ} (z : Lent row search raw k s) (lx : x < row.w) where
-  -- left of the part, in it, and right of it
-  pub read_left : x < s.lo → inf true ≡ cell_in row search raw x k
-  read_left l = sym (part_left s.lo x _ l) ∙ z.reads x lx
-
-  pub read-in : s.lo ≤ x → s.from + (x - s.lo) < s.to → get_or raw (s.from + (x - s.lo)) nan ≡ cell_in row search raw x k
-  read-in l m =
-      let inside : x - s.lo < s.to - s.from = omega arith in
-      default_free raw (s.from + (x - s.lo)) nan (inf true) (omega (arith, z.ends))
-      ∙ sym (part_in s.lo (s.to - s.from) s.from x raw l inside)
-      ∙ z.reads x lx
-
-  pub read_right : s.lo ≤ x → s.to ≤ s.from + (x - s.lo) → inf true ≡ cell_in row search raw x k
-  read_right l m =
-      let past : s.to - s.from ≤ x - s.lo = omega arith in
-      sym (part_right s.lo (s.to - s.from) x (drop s.from raw) l past) ∙ z.reads x lx
 
 -- ---- the numbers of a row lie in their range
 
@@ -207,7 +195,7 @@ pub cell-range : (row : Row) (search : Search) (raw : List Float) (k x : ℕ) �
     → InRange (raw_of (cell_in row search raw x k))
 cell-range row search raw k x z all l lx =
     let p = places row search k z.sizes l in
-    let s = shift-within row.turned row.w search.first k in
+    let s = shift-within row.seen row.w search.first k in
     rw (← span-reads row search raw k x z l lx)
     (part-range (seen_span row search k).lo (lent_of row search raw k) x
     (mid-range raw (search.count * (row.w * row.h)) (seen_span row search k).from (seen_span row search k).to all z.planes (omega arith)))

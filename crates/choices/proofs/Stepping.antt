@@ -1,12 +1,13 @@
--- One index over a row: a loop that changes column after column of two rows, and skips the columns that are blank. Assumes nothing.
-use Rattle.std.proofs.Common.{◌≡◌, ℕ, zero, suc, ◌+◌, ◌-◌, ◌<◌, ◌≤◌, Bool, true, false, cond, leb, List, [], ◌∷◌, length, get_or, take, set, sym, refl, ap, ◌∙◌, ⊎_elim, le_of_suc-le-suc, not-suc-le-zero, eq-or-lt_of_le, arith, length-take, get_or-take, le-leb, leb-true}
+-- One index over a row: a loop that changes column after column of a row, and skips the columns that are blank. Assumes nothing.
+use Rattle.std.proofs.Common.{◌≡◌, ℕ, zero, suc, ◌+◌, ◌-◌, ◌<◌, ◌≤◌, Bool, true, false, cond, leb, List, [], ◌∷◌, length, get_or, take, set, sym, refl, ap, ◌∙◌, ⊎_elim, le_of_suc-le-suc, not-suc-le-zero, eq-or-lt_of_le, arith, length-take, get_or-take, le-leb, leb-true, take_all}
 use native.Mathlib.Nat.{add-sub_cancel_left}
 use lib.Ieee.{Float, nan, inf}
 use lib.ListN.{get_or-eq_default}
 use Rattle.lists.proofs.Tests.{lt-or-le}
 use Rattle.choices.specs.Seen.{part_at}
-use Rattle.choices.specs.Leading.{halves}
-use Rattle.choices.proofs.Halves.{halves-first, halves-second, halves-same, halves-own, set_first, set-second}
+use Rattle.lists.specs.Lists.{list_of}
+use Rattle.lists.proofs.Lists.{list_of-at, list_of-same, list_of-set}
+use Rattle.choices.proofs.Own.{list_of-own}
 
 -- ---- a part of a row
 
@@ -54,46 +55,30 @@ part-other lo i part x n = go (leb lo x) refl
         next : lo ≤ x → i ≤ x - lo → i + 1 ≤ x - lo
         next h l = ⊎_elim (λ (q : i ≡ x - lo). absurd (n (omega arith))) (λ (q : i < x - lo). omega arith) (eq-or-lt_of_le l)
 
--- ---- the loop over the part: F and G are what it does to the two numbers of a column, and a blank changes neither
+-- ---- the loop over the part
+
 -- the columns' numbers, once the first i of the part are read
 abbrev pub up_to : ℕ → List Float → ℕ → ℕ → Float
 up_to lo part i = part_at lo (take i part)
 
-module _ (F G : Float → Float → Float → Float) (w : ℕ) (work₀ : List Float) where
-  -- the two rows where u and v are the columns' numbers
-  abbrev pub stepped_by : (ℕ → Float) → (ℕ → Float) → List Float
-  stepped_by u v = halves w (λ x. F (get_or work₀ x nan) (get_or work₀ (w + x) nan) (u x)) (λ x. G (get_or work₀ x nan) (get_or work₀ (w + x) nan) (v x))
+-- F x v is what a row has in column x for the column's number v; a blank changes nothing
+module _ (F : ℕ → Float → Float) (old : List Float) (kept : (x : ℕ) → F x (inf true) ≡ get_or old x nan) (lo : ℕ) (part : List Float) (inside : lo + length part ≤ length old) where
+  -- the row once the first i numbers of the part are read
+  abbrev pub stepped : ℕ → List Float
+  stepped i = list_of (length old) (λ x. F x (up_to lo part i x))
 
-module _ (F G : Float → Float → Float → Float) (same-F : (m a : Float) → F m a (inf true) ≡ m) (same-G : (m a : Float) → G m a (inf true) ≡ a)
-    (w lo : ℕ) (part work₀ : List Float) (long : length work₀ ≡ w + w) (inside : lo + length part ≤ w) where
-  kept-F : (m a z : Float) → z ≡ inf true → F m a z ≡ m
-  kept-F m a z e = ap (λ v. F m a v) e ∙ same-F m a
+  pub step-none : old ≡ stepped 0
+  step-none = list_of-own old (length old) nan refl ∙ list_of-same (length old) _ _ (λ x l. sym (ap (F x) (part-empty lo part x) ∙ kept x))
 
-  kept-G : (m a z : Float) → z ≡ inf true → G m a z ≡ a
-  kept-G m a z e = ap (λ v. G m a v) e ∙ same-G m a
-
-  -- before the first number of the part nothing is changed
-  pub step-none : work₀ ≡ stepped_by F G w work₀ (up_to lo part 0) (up_to lo part 0)
-  step-none = halves-own w work₀ long ∙ halves-same w _ _ _ _ (λ x l. sym (kept-F _ _ _ (part-empty lo part x))) (λ x l. sym (kept-G _ _ _ (part-empty lo part x)))
+  pub step-all : (i : ℕ) → length part ≤ i → stepped i ≡ list_of (length old) (λ x. F x (part_at lo part x))
+  step-all i l = ap (λ p. list_of (length old) (λ x. F x (part_at lo p x))) (take_all i part l)
 
   module _ (i : ℕ) (more : i < length part) where
     -- a column that the loop has not reached is as it was
-    pub read_first : get_or (stepped_by F G w work₀ (up_to lo part i) (up_to lo part i)) (lo + i) nan ≡ get_or work₀ (lo + i) nan
-    read_first = halves-first w _ _ (lo + i) nan (omega arith) ∙ kept-F _ _ _ (part-blank lo i part)
+    pub step-read : get_or (stepped i) (lo + i) nan ≡ get_or old (lo + i) nan
+    step-read = list_of-at (length old) _ (lo + i) nan (omega arith) ∙ ap (F (lo + i)) (part-blank lo i part) ∙ kept (lo + i)
 
-    pub read-second : get_or (stepped_by F G w work₀ (up_to lo part i) (up_to lo part i)) (w + (lo + i)) nan ≡ get_or work₀ (w + (lo + i)) nan
-    read-second = halves-second w _ _ (lo + i) nan (omega arith) ∙ kept-G _ _ _ (part-blank lo i part)
-
-    pub step-first : (r : Float) → r ≡ F (get_or work₀ (lo + i) nan) (get_or work₀ (w + (lo + i)) nan) (get_or part i nan)
-        → set (stepped_by F G w work₀ (up_to lo part i) (up_to lo part i)) (lo + i) r ≡ stepped_by F G w work₀ (up_to lo part (i + 1)) (up_to lo part i)
-    step-first r e =
-        set_first w _ _ _ (lo + i) r (omega arith)
-        (ap (λ z. F (get_or work₀ (lo + i) nan) (get_or work₀ (w + (lo + i)) nan) z) (part-new lo i part more) ∙ sym e)
-        (λ j l n. ap (λ z. F (get_or work₀ j nan) (get_or work₀ (w + j) nan) z) (part-other lo i part j n))
-
-    pub step-second : (r : Float) → r ≡ G (get_or work₀ (lo + i) nan) (get_or work₀ (w + (lo + i)) nan) (get_or part i nan)
-        → set (stepped_by F G w work₀ (up_to lo part (i + 1)) (up_to lo part i)) (w + (lo + i)) r ≡ stepped_by F G w work₀ (up_to lo part (i + 1)) (up_to lo part (i + 1))
-    step-second r e =
-        set-second w _ _ _ (lo + i) r (omega arith)
-        (ap (λ z. G (get_or work₀ (lo + i) nan) (get_or work₀ (w + (lo + i)) nan) z) (part-new lo i part more) ∙ sym e)
-        (λ j l n. ap (λ z. G (get_or work₀ j nan) (get_or work₀ (w + j) nan) z) (part-other lo i part j n))
+    pub step-set : (r : Float) → r ≡ F (lo + i) (get_or part i nan) → set (stepped i) (lo + i) r ≡ stepped (i + 1)
+    step-set r e =
+        ap (λ v. set (stepped i) (lo + i) v) (e ∙ sym (ap (F (lo + i)) (part-new lo i part more)))
+        ∙ list_of-set (length old) _ (λ x. F x (up_to lo part (i + 1) x)) (lo + i) (λ j l n. ap (F j) (part-other lo i part j n))

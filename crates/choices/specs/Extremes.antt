@@ -1,6 +1,6 @@
 -- What the walks along a pixel's raw costs and sums find, said without the walk
 -- (docs/SPECIFICATION.md, "Block choice", "Semi-global choice"). Definitions only.
-use Rattle.std.specs.Prelude.{◌≡◌, ℕ, ◌<◌, true, false, T, List, length, get_or, slice_index_or, Float}
+use Rattle.std.specs.Prelude.{◌≡◌, ℕ, ◌<◌, true, false, T, List, Option, Some, None, length, get_or, slice_index_or, Float}
 use Rattle.std.specs.Float.{nan}
 use Rattle.std.specs.Float.Ieee.{lt}
 use Rattle.std.specs.Float.Ieee.Scale.{finite}
@@ -8,7 +8,6 @@ use Rattle.options.specs.declared.RawCost.{RawCost}
 use Rattle.options.specs.declared.RawCost.TheVariants.{Blank, Corr}
 use Rattle.options.specs.Costs.{InRange}
 use Rattle.choices.specs.declared.block.Best.{Best}
-use Rattle.choices.specs.declared.block.Best.TheVariants.{Nothing, Found}
 
 -- every raw cost is blank or lies from -1 to 1
 abbrev pub AllInRange : List RawCost → Type 0
@@ -22,9 +21,9 @@ pub record Largest (Counts : ℕ → Type 0) (costs : List RawCost) (k : ℕ) (v
   pub first : (j : ℕ) (u : Float) → Counts j → j < k → slice_index_or costs j Blank ≡ Corr u → lt u v ≡ true
 
 -- what is found among the indices that count: that, or nothing where every raw cost is blank
-abbrev pub Finds : (ℕ → Type 0) → List RawCost → Best → Type 0
-Finds Counts costs Nothing = (j : ℕ) → Counts j → slice_index_or costs j Blank ≡ Blank
-Finds Counts costs (Found k v) = Largest Counts costs k v
+abbrev pub Finds : (ℕ → Type 0) → List RawCost → Option Best → Type 0
+Finds Counts costs None = (j : ℕ) → Counts j → slice_index_or costs j Blank ≡ Blank
+Finds Counts costs (Some best) = Largest Counts costs best.k best.cost
 
 -- every sum is a number
 abbrev pub AllFinite : List Float → Type 0

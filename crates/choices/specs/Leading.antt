@@ -1,15 +1,11 @@
--- The best of each column of a row, index by index, as the loops over a row keep it: two rows of plain numbers. Definitions only.
-use Rattle.std.specs.Prelude.{ℕ, zero, suc, ◌+◌, ◌-◌, Bool, true, false, cond, ◌&&◌, ◌||◌, List, ◌++◌, get_or, pos, slice_index_or, Float}
+-- The best of each column of a row, index by index, as the loops over a row keep it: a row of numbers, and a row of their indices. Definitions only.
+use Rattle.std.specs.Prelude.{ℕ, zero, suc, ◌+◌, ◌-◌, Bool, true, false, cond, ◌&&◌, ◌||◌, List, length, pos, slice_index_or, Float}
 use Rattle.std.specs.Float.{nan, inf, binary32}
 use Rattle.std.specs.Float.Ieee.{of_int, lt, sub}
 use Rattle.lists.specs.Lists.{list_of}
 use Rattle.options.specs.declared.RawCost.{RawCost}
 use Rattle.options.specs.declared.RawCost.TheVariants.{Blank, Corr}
 use Rattle.choices.specs.Block.{away}
-
--- two rows of w numbers, one after the other
-unfoldable pub halves : ℕ → (ℕ → Float) → (ℕ → Float) → List Float
-halves w f g = list_of w f ++ list_of w g
 
 -- an index as it stands in a row of floats
 abbrev pub index_float : ℕ → Float
@@ -39,16 +35,26 @@ too_near best (Corr second) ratio = lt (sub binary32 best second) ratio
 abbrev pub far : Float → ℕ → Bool
 far at k = lt (index_float (k + 1)) at || lt at (index_float (k - 1))
 
--- index k in every column: the first row holds the largest so far, the second its index, v the column's number
-unfoldable pub led_by : ℕ → ℕ → (ℕ → Float) → List Float → List Float
-led_by w k v work =
-    halves w
-    (λ x. cond (lt (slice_index_or work x nan) (v x)) (v x) (slice_index_or work x nan))
-    (λ x. cond (lt (slice_index_or work x nan) (v x)) (index_float k) (slice_index_or work (w + x) nan))
+-- the largest so far, where one number more is v
+abbrev pub larger : Float → Float → Float
+larger most v = cond (lt most v) v most
 
--- index k in every column: the first row holds the competitor so far, the second the index of the best
-unfoldable pub rivalled_by : ℕ → ℕ → (ℕ → Float) → List Float → List Float
-rivalled_by w k v work =
-    halves w
-    (λ x. cond (far (slice_index_or work (w + x) nan) k && lt (slice_index_or work x nan) (v x)) (v x) (slice_index_or work x nan))
-    (λ x. get_or work (w + x) nan)
+-- its index, where that number has index k
+abbrev pub larger_at : ℕ → Float → Float → Float → Float
+larger_at k most at v = cond (lt most v) (index_float k) at
+
+-- the competitor so far, where one number more is v, with index k, and `at` is the index of the best
+abbrev pub rivalled : ℕ → Float → Float → Float → Float
+rivalled k at most v = cond (far at k && lt most v) v most
+
+-- the largest so far of every column of a row, where v has the columns' numbers one index further
+unfoldable pub led_most : (ℕ → Float) → List Float → List Float
+led_most v most = list_of (length most) (λ x. larger (slice_index_or most x nan) (v x))
+
+-- their indices, where that index is k
+unfoldable pub led_at : ℕ → (ℕ → Float) → List Float → List Float → List Float
+led_at k v most at = list_of (length at) (λ x. larger_at k (slice_index_or most x nan) (slice_index_or at x nan) (v x))
+
+-- the competitors so far, where `at` has the indices of the best
+unfoldable pub rivalled_by : ℕ → (ℕ → Float) → List Float → List Float → List Float
+rivalled_by k v at most = list_of (length most) (λ x. rivalled k (slice_index_or at x nan) (slice_index_or most x nan) (v x))

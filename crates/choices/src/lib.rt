@@ -1,4 +1,4 @@
-// The choice of a disparity for each pixel, and the left-right test (document 01).
+// The choice of a disparity for each pixel, and the left-right test (docs/SPECIFICATION.md).
 #![tactic(auto)]
 
 pub mod block;

@@ -1,6 +1,6 @@
 -- The outcome of a raw volume. Assumes nothing.
-use Prim.Native.Nat.{ℕ, zero, suc, ◌*◌, ◌/◌, ◌≤◌}
-use mathlib.Core.Path.{◌≡◌, refl, ◌∙◌}
+use Prim.Native.Nat.{ℕ, ◌*◌, ◌/◌, ◌≤◌}
+use mathlib.Core.Path.{◌≡◌, refl, sym, ◌∙◌}
 use mathlib.Core.List.{List}
 use lib.IntN.{ℤ, nat_abs}
 use lib.Ieee.{Float}
@@ -11,7 +11,10 @@ use Rattle.calls.specs.declared.Call.{Call}
 use Rattle.calls.specs.Refusals.{whole_cells_of, table, refusal}
 use Rattle.calls.specs.Accepted.{Sizes}
 use Rattle.calls.proofs.Rows.{table-numbered}
+use Rattle.refusals.specs.declared.Refusal.{Refusal}
+use Rattle.refusals.specs.Numbers.{number_of}
 use Rattle.refusals.specs.Answered.{ByPlace}
+use Rattle.refusals.proofs.Cases.{after-refused}
 use Rattle.refusals.proofs.Answering.{answers-by-place}
 use Rattle.refusals.proofs.Outcomes.{same_outcome, same_after}
 use Rattle.costs.specs.Raw.{reference_of, target_of, raw_cost}
@@ -56,10 +59,10 @@ swapped z = record {
 }
 
 -- a refused call leaves everything as it was
-pub refused : (n : ℕ) (q : Call) (side : Side) (left right : List ℕ) (out : List Float) (room : List ℕ) → n ≡ refusal q → (n ≡ 0 → ⊥)
-    → RawOutcome n q side left right out out room room
-refused zero q side left right out room e some = absurd (some refl)
-refused (suc n) q side left right out room e some = record { answer = e; output = refl; rooms = refl }
+pub refused : (q : Call) (side : Side) (left right : List ℕ) (out : List Float) (room : List ℕ) (e : Refusal) → number_of e ≡ refusal q
+    → RawOutcome (number_of e) q side left right out out room room
+refused q side left right out room e same =
+    record { answer = same; output = sym (after-refused e (volume_for q side left right) out refl); rooms = sym (after-refused e (cleared 0 (whole_cells_of q) room) room refl) }
 
 -- one that is not has made the volume and cleared the room
 pub made : (q : Call) (side : Side) (left right : List ℕ) (out out' : List Float) (room room' : List ℕ) → 0 ≡ refusal q

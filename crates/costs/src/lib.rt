@@ -1,16 +1,35 @@
-// The raw cost and the raw volume (document 01).
+// The raw cost and the raw volume (docs/SPECIFICATION.md, "Raw cost").
 #![tactic(auto)]
 
 ghost use Rattle.std.specs.Prelude.{◌≡◌, length};
+ghost use Rattle.refusals.specs.Given.{number_in};
 ghost use Rattle.costs.specs.Outcome.{raw_call, RawOutcome};
 
 use calls::{Call, Output};
 use options::{BlockMatchOptions, Mode, Side};
+use refusals::Refusal;
 
 mod plane;
 pub mod raw;
 pub mod tables;
 pub mod volume;
+
+// Pictures of w columns and h rows, and in them windows whose sides reach r pixels from the centre.
+#[derive(Clone, Copy)]
+pub struct Frame {
+    pub w: usize,
+    pub h: usize,
+    pub r: usize,
+}
+
+// Two pictures of w columns and h rows.
+#[derive(Clone, Copy)]
+pub struct Pictures<'a> {
+    pub left: &'a [u8],
+    pub right: &'a [u8],
+    pub w: usize,
+    pub h: usize,
+}
 
 // What is asked for and lent: no mode is used, and the block's stands there; so no penalty is read, and there is no float
 // room.
@@ -48,7 +67,7 @@ pub fn raw_call(
 }
 
 // The raw costs of all indices and pixels: index k of pixel (x, y) goes to cell k·w·h + y·w + x of `out`, blank as negative
-// infinity. The answer is the number of the first reason to refuse, which leaves every cell as it was, or 0.
+// infinity. A refusal leaves every cell as it was.
 pub fn raw_volume(
     left: &[u8],
     left_w: usize,
@@ -60,8 +79,8 @@ pub fn raw_volume(
     side: Side,
     out: &mut [f32],
     room: &mut [u64],
-) -> u32
-    ensures { RawOutcome result (raw_call left.now left_w left_h right.now right_w right_h opts (length out.old) (length room.old)) side left.now right.now out.old out.new room.old room.new }
+) -> Result<(), Refusal>
+    ensures { RawOutcome (number_in result) (raw_call left.now left_w left_h right.now right_w right_h opts (length out.old) (length room.old)) side left.now right.now out.old out.new room.old room.new }
 {
     let call = raw_call(
         left,
@@ -74,10 +93,13 @@ pub fn raw_volume(
         out.len(),
         room.len(),
     );
-    let refused = calls::refusal(call);
-    if refused != 0 {
-        return refused;
-    }
-    volume::volume_of(left, right, left_w, left_h, opts, side, out, room);
-    0
+    call.check()?;
+    let pictures = Pictures {
+        left,
+        right,
+        w: left_w,
+        h: left_h,
+    };
+    volume::volume_of(pictures, opts, side, out, room);
+    Ok(())
 }

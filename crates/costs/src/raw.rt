@@ -11,6 +11,7 @@ ghost use Rattle.windows.specs.Window.{window_sum};
 ghost use Rattle.costs.specs.Quotient.{CountsExactly, is_flat, one, quotient_cost, Divisible};
 ghost use Rattle.costs.specs.Rooms.{TablesOf, WindowsSummed, RoomOf, Pair};
 
+use crate::Frame;
 use numbers::narrow::narrow_plain;
 use options::{BlockMatchOptions, RawCost};
 use windows::window_sum;
@@ -20,7 +21,7 @@ fn counted(n: u64) -> f64
     requires { n < 2 ^ 32 }
     ensures { result ≡ of_int binary64 (pos n) }
 {
-    ((n % 0x1_0000_0000) as u32) as f64
+    f64::from((n % 0x1_0000_0000) as u32)
 }
 
 // n·Sab - Sa·Sb, of the sums and the sum of products of two windows of n levels: f64 counts each step.
@@ -35,7 +36,7 @@ fn covariance(n: u64, sum_a: u64, sum_b: u64, products: u64) -> f64
 fn is_flat(a: u64, b: u64) -> bool
     ensures { result ≡ is_flat a b }
 {
-    if a == 0 { true } else { b == 0 }
+    a == 0 || b == 0
 }
 
 // What the covariance is divided by: 1 where the quotient is not wanted.
@@ -67,50 +68,44 @@ pub fn quotient(cov: f64, a: u64, b: u64) -> RawCost
     cost_of(flat, corr)
 }
 
-// The same of the windows at (x, y) of the reference and at (other, y) of the target, whose sum of products is given.
-pub fn summed_cost(
-    room: &[u64],
-    w: usize,
-    h: usize,
-    r: usize,
-    x: usize,
-    other: usize,
-    y: usize,
-    products: u64,
-) -> RawCost
-    requires { WindowsSummed room.now w h r x other y products }
-    ensures { (s : ℤ) (a b : List ℕ) → TablesOf room.now w h r a b → products ≡ window_sum (cross_at w a b s) x y r → result ≡ pair_cost w r a b s x other y }
-{
-    let side = w + 1;
-    let cells = side * (h + 1);
-    let top = (y - r) * side;
-    let here = top + (x - r);
-    let there = top + (other - r);
-    let n = 2 * r + 1;
-    let cov = covariance(
-        (n * n) as u64,
-        room[here],
-        room[2 * cells + there],
-        products,
-    );
-    quotient(cov as f64, room[cells + here], room[3 * cells + there])
-}
+impl Frame {
+    // The same of the windows at (x, y) of the reference and at (other, y) of the target, whose sum of products is given.
+    pub fn summed_cost(
+        self,
+        room: &[u64],
+        x: usize,
+        other: usize,
+        y: usize,
+        products: u64,
+    ) -> RawCost
+        requires { WindowsSummed room.now self.w self.h self.r x other y products }
+        ensures { (s : ℤ) (a b : List ℕ) → TablesOf room.now self.w self.h self.r a b → products ≡ window_sum (cross_at self.w a b s) x y self.r → result ≡ pair_cost self.w self.r a b s x other y }
+    {
+        let Frame { w, h, r } = self;
+        let side = w + 1;
+        let cells = side * (h + 1);
+        let top = (y - r) * side;
+        let here = top + (x - r);
+        let there = top + (other - r);
+        let n = 2 * r + 1;
+        let cov = covariance(
+            (n * n) as u64,
+            room[here],
+            room[2 * cells + there],
+            products,
+        );
+        quotient(cov, room[cells + here], room[3 * cells + there])
+    }
 
-// The raw cost of the window at (x, y) of the reference and the one at (other, y) of the target.
-pub fn pair_cost(
-    room: &[u64],
-    w: usize,
-    h: usize,
-    r: usize,
-    x: usize,
-    other: usize,
-    y: usize,
-) -> RawCost
-    requires { Pair room.now w h r x other y }
-    ensures { (s : ℤ) (a b : List ℕ) → RoomOf room.now w h r s a b → result ≡ pair_cost w r a b s x other y }
-{
-    let side = w + 1;
-    let corner = (y - r) * side + (x - r);
-    let products = window_sum(room, side, 4 * (side * (h + 1)) + corner, 2 * r + 1);
-    summed_cost(room, w, h, r, x, other, y, products)
+    // The raw cost of the window at (x, y) of the reference and the one at (other, y) of the target.
+    pub fn pair_cost(self, room: &[u64], x: usize, other: usize, y: usize) -> RawCost
+        requires { Pair room.now self.w self.h self.r x other y }
+        ensures { (s : ℤ) (a b : List ℕ) → RoomOf room.now self.w self.h self.r s a b → result ≡ pair_cost self.w self.r a b s x other y }
+    {
+        let Frame { w, h, r } = self;
+        let side = w + 1;
+        let corner = (y - r) * side + (x - r);
+        let products = window_sum(room, side, 4 * (side * (h + 1)) + corner, 2 * r + 1);
+        self.summed_cost(room, x, other, y, products)
+    }
 }

@@ -1,16 +1,18 @@
 -- What the program prints for an input (docs/SPECIFICATION.md, "The print program"). Definitions only.
-use Rattle.std.specs.Prelude.{ℕ, ◌+◌, ◌*◌, ◌≡◌, cond, List, length, take, drop, eqb, pos}
+use Rattle.std.specs.Prelude.{ℕ, ◌+◌, ◌*◌, ◌≡◌, cond, List, length, take, drop, eqb, pos, Float, Result, Ok, Err}
 use Rattle.options.specs.Options.{mode_of, default_options}
 use Rattle.options.specs.declared.BlockMatchOptions.{BlockMatchOptions}
 use Rattle.calls.specs.declared.Call.{Call}
+use Rattle.refusals.specs.declared.Refusal.{Refusal}
+use Rattle.refusals.specs.Numbers.{number_of}
 use Rattle.calls.specs.Refusals.{refusal}
 use Rattle.lists.specs.Stores.{Printed}
 use Rattle.maps.specs.Map.{valids}
 use Rattle.matching.specs.Maps.{map_of}
 use Rattle.matching.specs.Outcome.{match_call}
 use Rattle.heap_text.specs.declared.head.Request.{Request}
-use Rattle.heap_text.specs.declared.plan.Plan.{Plan}
-use Rattle.heap_text.specs.declared.plan.Plan.TheVariants.{Match, TooBig, BadInput}
+use Rattle.heap_text.specs.declared.plan.TurnedDown.{TurnedDown}
+use Rattle.heap_text.specs.declared.plan.TurnedDown.TheVariants.{TooBig, BadInput}
 use Rattle.heap_text.specs.Plan.{plan_of}
 use Rattle.heap_text.specs.Text.{map_text, refused_text, too_big_text, bad_input_text}
 
@@ -49,6 +51,11 @@ abbrev pub call_for : List ℕ → Request → Call
 call_for s q =
     match_call (left_of s q) q.width q.height (right_of s q) q.width q.height (options_of q) (q.width * q.height) whole_room_cells float_room_cells
 
+-- what a match leaves: the map, or the reason of its refusal
+abbrev pub Matched : List ℕ → Request → Result (Unit {0}) Refusal → List Float → Type 0
+Matched s q (Ok _) cells = (refusal (call_for s q) ≡ 0) × (cells ≡ map_of q.width q.height (options_of q) (left_of s q) (right_of s q))
+Matched s q (Err e) cells = refusal (call_for s q) ≡ number_of e
+
 -- the number given back where there is one, else the map
 unfoldable pub matched_text : List ℕ → Request → List ℕ
 matched_text s q =
@@ -57,10 +64,10 @@ matched_text s q =
     cond (eqb number 0) (map_text q.width q.height (valids cells) cells) (refused_text number)
 
 -- each plan has its text
-abbrev pub answer_with : List ℕ → Plan → List ℕ
-answer_with s (Match q) = matched_text s q
-answer_with s TooBig = too_big_text
-answer_with s BadInput = bad_input_text
+abbrev pub answer_with : List ℕ → Result Request TurnedDown → List ℕ
+answer_with s (Ok q) = matched_text s q
+answer_with s (Err TooBig) = too_big_text
+answer_with s (Err BadInput) = bad_input_text
 
 -- the whole answer
 unfoldable pub answer_of : List ℕ → List ℕ

@@ -10,7 +10,6 @@ ghost use Rattle.options.specs.Limits.{side_most, most_count};
 ghost use Rattle.maps.specs.Cells.{in_buffer, cell_of};
 ghost use Rattle.holes.specs.Holes.{opened_by, open_at};
 
-use lists::fill_first;
 use maps::Cell;
 use options::RawCost;
 
@@ -29,10 +28,9 @@ fn open_plane(out: &mut [f32], plane: &[f32])
     requires { length out.old ≡ length plane.now }
     ensures { out.new ≡ list_of (length plane.now) (λ p. in_buffer (opened_by (raw_of (get_or plane.now p nan)) (cell_of (get_or out.old p nan)))) }
 {
-    for p in 0..plane.len() {
-        let cost = RawCost::of_cell(plane[p]);
-        let cell = opened_by(cost, Cell::of_cell(out[p]));
-        out[p] = cell.stored();
+    for (p, cell) in out.iter_mut().enumerate() {
+        let cost = RawCost::from(plane[p]);
+        *cell = f32::from(opened_by(cost, Cell::from(*cell)));
     }
 }
 
@@ -44,7 +42,8 @@ pub fn mark_holes(out: &mut [f32], raw: &[f32], area: usize, count: usize)
     requires area_in_bounds { count * area ≤ length raw.now }
     ensures { out.new ≡ list_of area (λ p. in_buffer (open_at raw.now area count p)) }
 {
-    fill_first(out, area, Cell::Mark.stored());
+    out.fill(f32::from(Cell::Mark));
+    // By the index: there may be no pixel at all, and then no chunks of `area` cells.
     for k in 0..count {
         let first = k * area;
         let last = first + area;

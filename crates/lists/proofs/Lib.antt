@@ -2,9 +2,6 @@
 pub mod Lists
 pub mod Tests
 pub mod Firsts
-pub mod Walks
-pub mod Clearing
-pub mod Copying
 pub mod Rows
 pub mod Sums
 pub mod Sizes

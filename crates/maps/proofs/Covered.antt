@@ -21,10 +21,9 @@ use Rattle.options.proofs.Frames.{leaves, says-within}
 use Rattle.refusals.specs.Answered.{first_of}
 use Rattle.refusals.specs.Given.{number_back}
 use Rattle.refusals.specs.Outcome.{answer_for}
+use Rattle.refusals.specs.Steps.{is}
 use Rattle.refusals.proofs.Answering.{none_of}
 use Rattle.refusals.proofs.Cases.{answer-made}
-use Rattle.maps.specs.declared.Number.TheVariants as number
-use Rattle.maps.specs.Given.{number_given}
 use Rattle.maps.specs.Map.{good_size, size_rows, cover_rows, valids, inner_valids, inner_area, permille, cover_of}
 use Rattle.maps.specs.Inner.{Framed}
 use Rattle.maps.proofs.Facts.{good, pixels-small}
@@ -69,16 +68,16 @@ module _ (part all : ℕ) (some : 0 < all) (most : part ≤ all) where
 
 module _ (w h : ℕ) (cells : List Float) (block : ℕ) where
   -- where a figure is answered, there is no refusal, and it is that of the inner frame
-  figure-is : (n : ℕ) → cover_of w h cells block ≡ number.Is n → (first_of (cover_rows w h (length cells) block) ≡ 0) × (n ≡ permille w h (block / 2) cells)
+  figure-is : (n : ℕ) → cover_of w h cells block ≡ is n → (first_of (cover_rows w h (length cells) block) ≡ 0) × (n ≡ permille w h (block / 2) cells)
   unfolding cover_of
   figure-is n = go (first_of (cover_rows w h (length cells) block))
     where
-      go : (m : ℕ) → answer_for m number.Refused (number.Is (permille w h (block / 2) cells)) ≡ number.Is n → (m ≡ 0) × (n ≡ permille w h (block / 2) cells)
+      go : (m : ℕ) → answer_for m (permille w h (block / 2) cells) ≡ is n → (m ≡ 0) × (n ≡ permille w h (block / 2) cells)
       go zero e = (refl, cc)
-      go (suc m) e = let none : suc m ≡ 0 = ap (λ a. number_back (number_given a)) e in absurd (omega arith)
+      go (suc m) e = let none : suc m ≡ 0 = ap (λ a. number_back a) e in absurd (omega arith)
 
   -- THEOREM: it is 1,000 at most
-  pub cover-most : (n : ℕ) → cover_of w h cells block ≡ number.Is n → n ≤ 1000
+  pub cover-most : (n : ℕ) → cover_of w h cells block ≡ is n → n ≤ 1000
   cover-most n e =
       let is = figure-is n e in
       let f = cover-framed w h (length cells) block is.0 in
@@ -89,7 +88,7 @@ module _ (w h : ℕ) (cells : List Float) (block : ℕ) where
   Full = (p : ℕ) → p < w * h → inner w h (block / 2) p ≡ true → finite (get_or cells p nan) ≡ true
 
   -- THEOREM: where it is not refused, it is 1,000 exactly where every cell of the inner frame is valid
-  pub cover-full : first_of (cover_rows w h (length cells) block) ≡ 0 → (cover_of w h cells block ≡ number.Is 1000) ↔ Full
+  pub cover-full : first_of (cover_rows w h (length cells) block) ≡ 0 → (cover_of w h cells block ≡ is 1000) ↔ Full
   unfolding cover_of inner_valids
   cover-full none = (full, thousand)
     where
@@ -102,13 +101,13 @@ module _ (w h : ℕ) (cells : List Float) (block : ℕ) where
       pixels : count_below (w * h) (inner w h (block / 2)) ≡ inner_area w h (block / 2)
       pixels = inner-pixels w h (block / 2) f.across f.down
 
-      full : cover_of w h cells block ≡ number.Is 1000 → Full
+      full : cover_of w h cells block ≡ is 1000 → Full
       full e = all-by-count (inner w h (block / 2)) valid (w * h) (thousand-all _ _ (area-some f) (valids-few f cells) (sym (figure-is 1000 e).1) ∙ sym pixels)
 
-      thousand : Full → cover_of w h cells block ≡ number.Is 1000
+      thousand : Full → cover_of w h cells block ≡ is 1000
       thousand all =
           let counted = count-all (inner w h (block / 2)) valid (w * h) all ∙ pixels in
-          sym (ap number.Is (sym (all-thousand _ _ (area-some f) (valids-few f cells) counted)) ∙ answer-made number.Refused _ refl none)
+          sym (ap is (sym (all-thousand _ _ (area-some f) (valids-few f cells) counted)) ∙ answer-made _ (sym none))
 
 -- ---- a block of one pixel
 
@@ -126,11 +125,11 @@ all-valids w h cells long =
     ∙ sym (valids-sum cells ∙ ap (λ n. sum_to n (λ p. cond (finite (get_or cells p nan)) 1 0)) long)
 
 -- THEOREM: by it the cover figure is 1000 · valid / (w · h), rounded down, which it was by any block before
-pub cover-by-one : (w h : ℕ) (cells : List Float) → cover_of w h cells 1 ≡ answer_for (first_of (size_rows w h (length cells))) number.Refused (number.Is (1000 * valids cells / (w * h)))
+pub cover-by-one : (w h : ℕ) (cells : List Float) → cover_of w h cells 1 ≡ answer_for (first_of (size_rows w h (length cells))) (1000 * valids cells / (w * h))
 unfolding cover_of first_of
 cover-by-one w h cells = go (good_size w h (length cells)) refl
   where
-    go : (t : Bool) → good_size w h (length cells) ≡ t → cover_of w h cells 1 ≡ answer_for (first_of (size_rows w h (length cells))) number.Refused (number.Is (1000 * valids cells / (w * h)))
+    go : (t : Bool) → good_size w h (length cells) ≡ t → cover_of w h cells 1 ≡ answer_for (first_of (size_rows w h (length cells))) (1000 * valids cells / (w * h))
     go false e = rw e
     go true e =
         let g = good w h (length cells) e in

@@ -1,21 +1,22 @@
 -- The range of cells is their least and their greatest valid number, of equal ones the leftmost. Assumes nothing.
-use Prim.Native.Nat.{ℕ, zero, suc, ◌+◌, ◌<◌}
+use Prim.Native.Nat.{ℕ, zero, suc, ◌<◌, ◌≤◌}
 use mathlib.Core.Path.{◌≡◌, refl, sym, ◌∙◌, subst}
 use mathlib.Core.Bool.{Bool, true, false, cond, true≢false}
 use mathlib.Core.List.{List}
 use native.Mathlib.Numerals.{add-one}
 use native.Mathlib.Omega.{arith}
 use lib.Dec.{T}
-use lib.ListN.{length, get_or, drop}
+use lib.ListN.{length, get_or, take}
+use lib.Seq.{take-length}
 use lib.Ieee.{Float, nan, lt}
 use lib.Ieee.Scale.{finite}
 use Rattle.lists.proofs.Tests.{last_or}
 use Rattle.numbers.proofs.FloatOrder.{lt_not, lt-self, lt-under, lt-over}
-use Rattle.maps.specs.declared.Range.{Range}
-use Rattle.maps.specs.declared.Range.TheVariants as range
-use Rattle.maps.specs.Map.{lesser_of, greater_of, widen, widens, range_of}
+use Rattle.std.specs.Prelude.{Option, None, Some}
+use Rattle.maps.specs.declared.Span.{Span}
+use Rattle.maps.specs.Map.{widen, range_of}
 use Rattle.maps.specs.Extremes.{First, Found, Finds}
-use Rattle.maps.proofs.Facts.{widens-step, widens-end}
+use Rattle.std.proofs.lemmas.List.Sums.{fold_more}
 
 -- a cell that is both valid and not
 both_ways : {X : Type 0} (t : Bool) → t ≡ true → t ≡ false → X
@@ -89,23 +90,23 @@ module _ {before : Float → Float → Bool} (order : Order before) (cells : Lis
       }
 
 -- in both orders at once
-found-next : (cells : List Float) (n : ℕ) (r : Range) → Found cells n r → Found cells (suc n) (widen r (get_or cells n nan))
-unfolding widen lesser_of greater_of
+found-next : (cells : List Float) (n : ℕ) (r : Option Span) → Found cells n r → Found cells (suc n) (widen r (get_or cells n nan))
+unfolding widen
 found-next cells n r f = go (finite (get_or cells n nan)) refl r f
   where
-    go : (t : Bool) → finite (get_or cells n nan) ≡ t → (r : Range) → Found cells n r → Found cells (suc n) (widen r (get_or cells n nan))
-    go true t range.None f = rw t (alone upwards cells n t f, alone downwards cells n t f)
-    go true t (range.Span lo hi) f = rw t (further upwards cells n t lo f.0, further downwards cells n t hi f.1)
-    go false t range.None f = rw t (λ j l. last_or j n l (λ e. rw e t) (λ m. f j m))
-    go false t (range.Span lo hi) f = rw t (left_out upwards cells n t lo f.0, left_out downwards cells n t hi f.1)
+    go : (t : Bool) → finite (get_or cells n nan) ≡ t → (r : Option Span) → Found cells n r → Found cells (suc n) (widen r (get_or cells n nan))
+    go true t None f = rw t (alone upwards cells n t f, alone downwards cells n t f)
+    go true t (Some s) f = rw t (further upwards cells n t s.least f.0, further downwards cells n t s.greatest f.1)
+    go false t None f = rw t (λ j l. last_or j n l (λ e. rw e t) (λ m. f j m))
+    go false t (Some s) f = rw t (left_out upwards cells n t s.least f.0, left_out downwards cells n t s.greatest f.1)
 
--- and so for all that are left, k of them
-found_all : (cells : List Float) (k n : ℕ) (r : Range) → n + k ≡ length cells → Found cells n r → Finds cells (widens r (drop n cells))
-found_all cells zero n r e f = rw (widens-end cells n r (omega arith)) (subst (λ m. Found cells m r) (omega arith) f)
-found_all cells (suc k) n r e f =
-    rw (widens-step cells n (omega arith) r)
-    (rw add-one (found_all cells k (suc n) (widen r (get_or cells n nan)) (omega arith) (found-next cells n r f)))
+-- and so of the first n cells
+found_upto : (cells : List Float) (n : ℕ) → n ≤ length cells → Found cells n (range_of (take n cells))
+found_upto cells zero l = λ j m. absurd (omega (arith, m))
+found_upto cells (suc n) l =
+    let more : range_of (take (suc n) cells) ≡ widen (range_of (take n cells)) (get_or cells n nan) = rw (← add-one) (fold_more widen None cells n nan (omega arith)) in
+    rw more (found-next cells n (range_of (take n cells)) (found_upto cells n (omega arith)))
 
 -- THEOREM: the range of cells is none where none is valid, and else the least and the greatest of the valid ones, each the leftmost of its equals
 pub range-found : (cells : List Float) → Finds cells (range_of cells)
-range-found cells = found_all cells (length cells) 0 range.None (omega arith) (λ j l. absurd (omega (arith, l)))
+range-found cells = rw take-length at (found_upto cells (length cells) (omega arith))

@@ -1,14 +1,12 @@
--- What the proofs of a map's functions share: what a good size says, where a pixel's cell lies, and one step of a loop over the cells. Assumes nothing.
-use mathlib.Core.Path.{◌≡◌, sym, ap, ◌∙◌}
-use Prim.Native.Nat.{ℕ, suc, ◌+◌, ◌*◌, ◌≤◌, ◌<◌}
+-- What the proofs of a map's functions share: what a good size says, and where a pixel's cell lies. Assumes nothing.
+use mathlib.Core.Path.{◌≡◌, sym, ◌∙◌}
+use Prim.Native.Nat.{ℕ, ◌+◌, ◌*◌, ◌≤◌, ◌<◌}
 use native.Mathlib.Nat.{mul-le-mul}
-use native.Mathlib.Numerals.{add-one}
 use native.Mathlib.Omega.{arith}
-use mathlib.Core.Bool.{Bool, true, false, ◌&&◌, cond}
-use mathlib.Core.List.{List, [], ◌∷◌}
+use mathlib.Core.Bool.{Bool, true, false, ◌&&◌}
+use mathlib.Core.List.{List}
 use borrow.Author.Tests.{ltb-true, eqb-true, not-false, lt-ltb}
-use lib.ListN.{length, get_or, drop}
-use lib.Seq.{drop-cons, drop-length}
+use lib.ListN.{length, get_or}
 use lib.Dec.{ltb, eqb, lit<}
 use lib.Ieee.{Float, nan}
 use lib.Ieee.Scale.{finite}
@@ -17,13 +15,12 @@ use Rattle.lists.proofs.Rows.{pixel-in}
 use Rattle.options.specs.Limits.{side_most, is_side}
 use Rattle.options.proofs.Sides.{side-fits}
 use Rattle.refusals.specs.Answered.{first_of}
+use Rattle.refusals.specs.Steps.{is}
 use Rattle.refusals.proofs.Answering.{none_of}
-use Rattle.maps.specs.declared.Got.TheVariants as got
-use Rattle.maps.specs.declared.Number.TheVariants as number
-use Rattle.maps.specs.declared.Range.{Range}
-use Rattle.maps.specs.declared.Range.TheVariants as range
+use Rattle.std.specs.Prelude.{Option, None, Some}
+use Rattle.maps.specs.declared.Span.{Span}
 use Rattle.maps.specs.Cells.{cell_of}
-use Rattle.maps.specs.Map.{good_size, inside, size_rows, pixel_rows, got_at, valids, valid_count, widen, widens}
+use Rattle.maps.specs.Map.{good_size, inside, size_rows, pixel_rows, got_at, valids, valid_count, widen}
 
 -- a map of a good size
 pub record Good (w h n : ℕ) : Type 0 where
@@ -46,9 +43,6 @@ good w h n t =
 pub size-tested : (w h n : ℕ) → first_of (size_rows w h n) ≡ 0 → good_size w h n ≡ true
 size-tested w h n none = not-false (good_size w h n) (none_of (size_rows w h n) (lit< tt, tt) none).0
 
-pub accepted : (w h n : ℕ) → first_of (size_rows w h n) ≡ 0 → Good w h n
-accepted w h n none = good w h n (size-tested w h n none)
-
 -- there are few enough cells that 1,000 times their number fits
 pub pixels-small : (w h : ℕ) → w ≤ side_most → h ≤ side_most → w * h ≤ side_most * side_most
 pixels-small w h a b = mul-le-mul a b
@@ -67,52 +61,18 @@ seat w h n x y none =
     let in_all = pixel-in w h x y (ltb-true x w both.0) (ltb-true y h both.1) in
     record { there = omega (arith, g.long); fits = omega (arith, pixels-small w h g.narrow g.low) }
 
--- what is left of the cells from i on, and from i + 1 on
-module _ (cells : List Float) (i : ℕ) (b : i < length cells) where
-  valids-step : valids (drop i cells) ≡ cond (finite (get_or cells i nan)) 1 0 + valids (drop (i + 1) cells)
-  unfolding valids
-  valids-step = rw (add-one, drop-cons cells i nan)
-
-  pub valids-more : (t : Bool) → t ≡ finite (get_or cells i nan) → t ≡ true → valids (drop i cells) ≡ 1 + valids (drop (i + 1) cells)
-  valids-more t e h = valids-step ∙ ap (λ (u : Bool). cond u 1 0 + valids (drop (i + 1) cells)) (sym e ∙ h)
-
-  pub valids-same : (t : Bool) → t ≡ finite (get_or cells i nan) → t ≡ false → valids (drop i cells) ≡ valids (drop (i + 1) cells)
-  valids-same t e h = omega (arith, valids-step ∙ ap (λ (u : Bool). cond u 1 0 + valids (drop (i + 1) cells)) (sym e ∙ h))
-
-  pub widens-step : (r : Range) → widens r (drop i cells) ≡ widens (widen r (get_or cells i nan)) (drop (i + 1) cells)
-  unfolding widens
-  widens-step r = rw (add-one, drop-cons cells i nan)
-
-pub valids-end : (cells : List Float) (i : ℕ) → i ≡ length cells → valids (drop i cells) ≡ 0
-unfolding valids
-valids-end cells i e = rw (e, drop-length)
-
-pub widens-end : (cells : List Float) (i : ℕ) (r : Range) → i ≡ length cells → widens r (drop i cells) ≡ r
-unfolding widens
-widens-end cells i r e = rw (e, drop-length)
-
--- there are at most as many valid cells as cells
-pub valids-most : (cells : List Float) → valids cells ≤ length cells
-unfolding valids
-valids-most [] = omega arith
-valids-most (c ∷ cs) = one-most (finite c) (valids cs) (length cs) (valids-most cs)
-  where
-    one-most : (t : Bool) (m n : ℕ) → m ≤ n → cond t 1 0 + m ≤ suc n
-    one-most true m n h = omega arith
-    one-most false m n h = omega arith
-
 -- where a map has a good size, and a pixel lies in it, the answers are no refusals
 module _ (w h : ℕ) (cells : List Float) (size : good_size w h (length cells) ≡ true) where
-  pub got_in : (x y : ℕ) → x < w → y < h → got_at w h cells x y ≡ got.Cell (cell_of (get_or cells (y * w + x) nan))
+  pub got_in : (x y : ℕ) → x < w → y < h → got_at w h cells x y ≡ is (cell_of (get_or cells (y * w + x) nan))
   unfolding got_at first_of inside
   got_in x y across down = rw (size, lt-ltb x w across, lt-ltb y h down)
 
-  pub count-is : valid_count w h cells ≡ number.Is (valids cells)
+  pub count-is : valid_count w h cells ≡ is (valids cells)
   unfolding valid_count first_of
   count-is = rw size
 
 -- a number that is not valid widens no range
-pub widen-not : (r : Range) (x : Float) (t : Bool) → t ≡ finite x → t ≡ false → r ≡ widen r x
+pub widen-not : (r : Option Span) (x : Float) (t : Bool) → t ≡ finite x → t ≡ false → r ≡ widen r x
 unfolding widen
-widen-not range.None x t e q = rw (sym e ∙ q)
-widen-not (range.Span lo hi) x t e q = rw (sym e ∙ q)
+widen-not None x t e q = rw (sym e ∙ q)
+widen-not (Some s) x t e q = rw (sym e ∙ q)

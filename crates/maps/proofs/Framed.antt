@@ -9,6 +9,7 @@ use lib.ListN.{length, get_or, take, drop, length-drop}
 use lib.Seq.{get_or-take, get_or-drop, length-take-le}
 use lib.Ieee.{Float, nan}
 use lib.Ieee.Scale.{finite}
+use Rattle.std.proofs.lemmas.List.Sums.{sum_by-cons, count_by-le-length}
 use Rattle.lists.specs.Sums.{sum_to, count_below}
 use Rattle.lists.proofs.Rows.{in-column, in-row, row_in}
 use Rattle.lists.proofs.Sums.{sum_to-same, sum_to-none, sum_to-const, sum_to-split, sum_to-bound, sum_to-first, sum_to-rows, count-all}
@@ -16,7 +17,6 @@ use Rattle.options.specs.Frame.{within, inner}
 use Rattle.options.proofs.Frames.{says-within, off-before, off-past}
 use Rattle.maps.specs.Map.{valids, inner_valids, inner_area}
 use Rattle.maps.specs.Inner.{Framed}
-use Rattle.maps.proofs.Facts.{valids-most}
 
 -- ---- sums over a frame
 
@@ -75,9 +75,11 @@ module _ (w h r : ℕ) (across : 2 * r < w) (down : 2 * r < h) where
 
 -- valid cells as a sum over the places of a list
 pub valids-sum : (cells : List Float) → valids cells ≡ sum_to (length cells) (λ i. cond (finite (get_or cells i nan)) 1 0)
-unfolding valids
 valids-sum [] = unfold sum_to in refl
-valids-sum (c ∷ cells) = ap (λ n. cond (finite c) 1 0 + n) (valids-sum cells) ∙ sym (sum_to-first (length cells) (λ i. cond (finite (get_or (c ∷ cells) i nan)) 1 0))
+valids-sum (c ∷ cells) =
+    sum_by-cons (λ v. cond (finite v) 1 0) c cells
+    ∙ ap (λ n. cond (finite c) 1 0 + n) (valids-sum cells)
+    ∙ sym (sum_to-first (length cells) (λ i. cond (finite (get_or (c ∷ cells) i nan)) 1 0))
 
 -- the part of row y without r cells at either end
 abbrev pub part_of : ℕ → ℕ → List Float → ℕ → List Float
@@ -132,6 +134,6 @@ module _ {w h r : ℕ} (cells : List Float) (f : Framed w h r (length cells)) wh
   pub counted-few : (n y : ℕ) → CountedRows w h r cells n y → n ≤ w * h
   counted-few n y c =
       let row : (j : ℕ) → j < y - r → valids (part_of w r cells (r + j)) ≤ w =
-      λ j l. omega (arith, valids-most (part_of w r cells (r + j)), part-long cells f (r + j) (omega (arith, c.high))) in
+      λ j l. omega (arith, count_by-le-length finite (part_of w r cells (r + j)), part-long cells f (r + j) (omega (arith, c.high))) in
       let rows : (y - r) * w ≤ h * w = mul-le-mul_right w (omega (arith, c.high)) in
       omega (arith, c.so_far, sum_to-bound w (y - r) _ row, mul_comm w h)

@@ -1,10 +1,9 @@
 -- What the walk along cells finds, said without the walk (docs/SPECIFICATION.md, "Map"). Definitions only.
-use Rattle.std.specs.Prelude.{ℕ, ◌<◌, ◌≡◌, Bool, true, false, List, length, get_or, Float}
+use Rattle.std.specs.Prelude.{ℕ, ◌<◌, ◌≡◌, Bool, true, false, Option, None, Some, List, length, get_or, Float}
 use Rattle.std.specs.Float.{nan}
 use Rattle.std.specs.Float.Ieee.{lt}
 use Rattle.std.specs.Float.Ieee.Scale.{finite}
-use Rattle.maps.specs.declared.Range.{Range}
-use Rattle.maps.specs.declared.Range.TheVariants as range
+use Rattle.maps.specs.declared.Span.{Span}
 
 -- of the first n cells v is a valid one, no valid one goes before it, and it goes before every valid one to the left of it
 pub record First (before : Float → Float → Bool) (cells : List Float) (n : ℕ) (v : Float) : Type 0 where
@@ -23,10 +22,10 @@ abbrev pub Greatest : List Float → ℕ → Float → Type 0
 Greatest = First (λ x y. lt y x)
 
 -- what is found among the first n cells: none is valid, or these two
-abbrev pub Found : List Float → ℕ → Range → Type 0
-Found cells n range.None = (j : ℕ) → j < n → finite (get_or cells j nan) ≡ false
-Found cells n (range.Span lo hi) = Least cells n lo × Greatest cells n hi
+abbrev pub Found : List Float → ℕ → Option Span → Type 0
+Found cells n None = (j : ℕ) → j < n → finite (get_or cells j nan) ≡ false
+Found cells n (Some s) = Least cells n s.least × Greatest cells n s.greatest
 
 -- of all of them
-abbrev pub Finds : List Float → Range → Type 0
+abbrev pub Finds : List Float → Option Span → Type 0
 Finds cells r = Found cells (length cells) r

@@ -1,5 +1,5 @@
 -- What a map's functions answer, each from the list of the map's cells (docs/SPECIFICATION.md, "Map", "Cover"). Definitions only.
-use Rattle.std.specs.Prelude.{ℕ, ◌+◌, ◌-◌, ◌*◌, ◌/◌, Bool, not, ◌&&◌, cond, List, [], ◌∷◌, ◌++◌, length, get_or, ltb, eqb, Float}
+use Rattle.std.specs.Prelude.{ℕ, ◌+◌, ◌-◌, ◌*◌, ◌/◌, Bool, not, ◌&&◌, cond, Option, None, Some, List, [], ◌∷◌, ◌++◌, length, get_or, ltb, eqb, count_by, fold, Float}
 use Rattle.std.specs.Float.{nan}
 use Rattle.std.specs.Float.Ieee.{lt}
 use Rattle.std.specs.Float.Ieee.Scale.{finite}
@@ -8,16 +8,9 @@ use Rattle.options.specs.Limits.{is_side, block_even, block_large, too_small}
 use Rattle.options.specs.Frame.{inner}
 use Rattle.refusals.specs.Answered.{Row, row, first_of}
 use Rattle.refusals.specs.Outcome.{answer_for}
-use Rattle.maps.specs.declared.Got.{Got}
-use Rattle.maps.specs.declared.Got.TheVariants as got
-use Rattle.maps.specs.declared.Validity.{Validity}
-use Rattle.maps.specs.declared.Validity.TheVariants as validity
-use Rattle.maps.specs.declared.Number.{Number}
-use Rattle.maps.specs.declared.Number.TheVariants as number
-use Rattle.maps.specs.declared.Range.{Range}
-use Rattle.maps.specs.declared.Range.TheVariants as range
-use Rattle.maps.specs.declared.Extent.{Extent}
-use Rattle.maps.specs.declared.Extent.TheVariants as extent
+use Rattle.refusals.specs.Steps.{Or}
+use Rattle.maps.specs.declared.Cell.{Cell}
+use Rattle.maps.specs.declared.Span.{Span}
 use Rattle.maps.specs.Cells.{cell_of}
 
 -- width and height in their range, and as many cells as pixels
@@ -45,21 +38,20 @@ abbrev pub pixel : ℕ → List Float → ℕ → ℕ → Float
 pixel w cells x y = get_or cells (y * w + x) nan
 
 -- the cell of a pixel
-unfoldable pub got_at : ℕ → ℕ → List Float → ℕ → ℕ → Got
-got_at w h cells x y = answer_for (first_of (pixel_rows w h (length cells) x y)) got.Refused (got.Cell (cell_of (pixel w cells x y)))
+unfoldable pub got_at : ℕ → ℕ → List Float → ℕ → ℕ → Or Cell
+got_at w h cells x y = answer_for (first_of (pixel_rows w h (length cells) x y)) (cell_of (pixel w cells x y))
 
 -- whether the cell of a pixel is valid
-unfoldable pub valid_at : ℕ → ℕ → List Float → ℕ → ℕ → Validity
-valid_at w h cells x y = answer_for (first_of (pixel_rows w h (length cells) x y)) validity.Refused (validity.Is (finite (pixel w cells x y)))
+unfoldable pub valid_at : ℕ → ℕ → List Float → ℕ → ℕ → Or Bool
+valid_at w h cells x y = answer_for (first_of (pixel_rows w h (length cells) x y)) (finite (pixel w cells x y))
 
 -- how many of the cells are valid
-unfoldable pub valids : List Float → ℕ
-valids [] = 0
-valids (c ∷ cs) = cond (finite c) 1 0 + valids cs
+abbrev pub valids : List Float → ℕ
+valids cells = count_by finite cells
 
 -- the map's answer
-unfoldable pub valid_count : ℕ → ℕ → List Float → Number
-valid_count w h cells = answer_for (first_of (size_rows w h (length cells))) number.Refused (number.Is (valids cells))
+unfoldable pub valid_count : ℕ → ℕ → List Float → Or ℕ
+valid_count w h cells = answer_for (first_of (size_rows w h (length cells))) (valids cells)
 
 -- how many cells of the inner frame are valid
 unfoldable pub inner_valids : ℕ → ℕ → ℕ → List Float → ℕ
@@ -74,34 +66,25 @@ abbrev pub permille : ℕ → ℕ → ℕ → List Float → ℕ
 permille w h r cells = 1000 * inner_valids w h r cells / inner_area w h r
 
 -- THE COVER FIGURE by a block, whose r is half its side, rounded down
-unfoldable pub cover_of : ℕ → ℕ → List Float → ℕ → Number
-cover_of w h cells block = answer_for (first_of (cover_rows w h (length cells) block)) number.Refused (number.Is (permille w h (block / 2) cells))
+unfoldable pub cover_of : ℕ → ℕ → List Float → ℕ → Or ℕ
+cover_of w h cells block = answer_for (first_of (cover_rows w h (length cells) block)) (permille w h (block / 2) cells)
 
 -- the lesser and the greater of a further number and what there was: an equal one leaves the earlier
-unfoldable pub lesser_of : Float → Float → Float
+abbrev pub lesser_of : Float → Float → Float
 lesser_of x least = cond (lt x least) x least
 
-unfoldable pub greater_of : Float → Float → Float
+abbrev pub greater_of : Float → Float → Float
 greater_of x greatest = cond (lt greatest x) x greatest
 
--- the least and the greatest once a further cell is seen
-unfoldable pub widen : Range → Float → Range
-widen range.None x = cond (finite x) (range.Span x x) range.None
-widen (range.Span lo hi) x = cond (finite x) (range.Span (lesser_of x lo) (greater_of x hi)) (range.Span lo hi)
+-- the least and the greatest once a further cell is seen, none before a valid one is
+unfoldable pub widen : Option Span → Float → Option Span
+widen None x = cond (finite x) (Some (record { least = x; greatest = x })) None
+widen (Some s) x = Some (cond (finite x) (record { least = lesser_of x s.least; greatest = greater_of x s.greatest }) s)
 
--- the same of a list of further cells, in their order
-unfoldable pub widens : Range → List Float → Range
-widens r [] = r
-widens r (c ∷ cs) = widens (widen r c) cs
-
--- the least and the greatest of the valid ones among cells
-abbrev pub range_of : List Float → Range
-range_of cells = widens range.None cells
+-- the least and the greatest of the valid ones among cells, seen in their order
+abbrev pub range_of : List Float → Option Span
+range_of cells = fold widen None cells
 
 -- the same as a map's answer
-abbrev pub extent_of : Range → Extent
-extent_of range.None = extent.None
-extent_of (range.Span lo hi) = extent.Span lo hi
-
-unfoldable pub valid_range : ℕ → ℕ → List Float → Extent
-valid_range w h cells = answer_for (first_of (size_rows w h (length cells))) extent.Refused (extent_of (range_of cells))
+unfoldable pub valid_range : ℕ → ℕ → List Float → Or (Option Span)
+valid_range w h cells = answer_for (first_of (size_rows w h (length cells))) (range_of cells)

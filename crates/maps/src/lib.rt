@@ -1,222 +1,131 @@
 // A disparity map over cells that the caller owns: one cell, whether it is valid, how many are, the least and the greatest, and the
-// cover figure. The functions take the sizes and the slice; `MapView` holds them together, and its functions take it apart.
+// cover figure. `MapView` holds the sizes and the slice; what the functions answer is said of the three.
 #![tactic(auto)]
 
 ghost use Rattle.std.specs.Prelude.{◌≡◌, cond, length};
 ghost use Rattle.std.specs.Float.Ieee.Scale.{finite};
 ghost use Rattle.refusals.specs.Answered.{first_of};
+ghost use Rattle.refusals.specs.Given.{given_back, number_in};
+ghost use Rattle.refusals.specs.Outcome.{answer_for};
 ghost use Rattle.maps.specs.Cells.{in_buffer, cell_of};
 ghost use Rattle.maps.specs.Inner.{Framed};
-ghost use Rattle.maps.specs.Map.{good_size, size_rows, pixel_rows, cover_rows, got_at, valid_at, valids, valid_count, inner_valids, cover_of, lesser_of, greater_of, range_of, valid_range};
+ghost use Rattle.maps.specs.Map.{good_size, size_rows, pixel_rows, cover_rows, pixel, got_at, valid_at, valids, valid_count, inner_valids, cover_of, lesser_of, greater_of, range_of, valid_range};
 
 use numbers::plain::is_finite;
 use options::{is_block_even, is_block_large, is_side, is_too_small};
+use refusals::Refusal;
 
-// One cell of a map: the mark of a cell that has no number, or a number.
-#[derive(Clone, Copy)]
+// One cell of a map: the mark of a cell that has no number, or a number. It is no `Option`: the specification names this enum and its
+// cases.
+#[derive(Clone, Copy, Debug, PartialEq)]
 pub enum Cell {
     Mark,
     At(f32),
 }
 
-impl Cell {
-    // A cell in a float buffer: the mark is a NaN.
-    pub fn stored(self) -> f32
-        ensures { result ≡ in_buffer self }
-    {
-        match self {
+// A cell in a float buffer: the mark is a NaN, made in this one place so that its bits are always the same.
+impl From<Cell> for f32 {
+    ghost from_gives = { λ cell number. number ≡ in_buffer cell };
+
+    fn from(cell: Cell) -> f32 {
+        match cell {
             Cell::Mark => 0.0 / 0.0,
             Cell::At(d) => d,
         }
     }
+}
 
-    // The cell that a number of a float buffer stands for: every NaN is the mark.
-    pub fn of_cell(v: f32) -> Cell
-        ensures { result ≡ cell_of v }
-    {
-        if v != v { Cell::Mark } else { Cell::At(v) }
+// The cell that a number of a float buffer stands for: every NaN is the mark.
+impl From<f32> for Cell {
+    ghost from_gives = { λ number cell. cell ≡ cell_of number };
+
+    fn from(number: f32) -> Cell {
+        if number.is_nan() {
+            Cell::Mark
+        } else {
+            Cell::At(number)
+        }
     }
 }
 
-// The answer to a question about one pixel's cell.
-#[derive(Drop)]
-pub enum Got {
-    Cell(Cell),
-    Refused(u8),
-}
-
-// The answer to whether one pixel's cell is valid.
-#[derive(Drop)]
-pub enum Validity {
-    Is(bool),
-    Refused(u8),
-}
-
-// A number of cells, or the cover figure.
-#[derive(Drop)]
-pub enum Number {
-    Is(usize),
-    Refused(u8),
-}
-
-// The least and the greatest valid number of some cells, where one is valid.
-#[derive(Drop)]
-pub enum Range {
-    None,
-    Span(f32, f32),
-}
-
-// The least and the greatest valid number of a map.
-#[derive(Drop)]
-pub enum Extent {
-    None,
-    Span(f32, f32),
-    Refused(u8),
+// The least and the greatest valid number of some cells.
+#[derive(Clone, Copy, Debug, PartialEq)]
+pub struct Span {
+    pub least: f32,
+    pub greatest: f32,
 }
 
 // Whether a map has a width and a height in their range, and as many cells as pixels.
+#[tactic(auto, unfolding(crate::specs::Map::good_size))]
 pub fn size_good(width: usize, height: usize, length: usize) -> bool
     ensures { result ≡ good_size width height length }
 {
-    if !is_side(width) {
-        return false;
-    }
-    if !is_side(height) {
-        return false;
-    }
-    length == width * height
+    is_side(width) && is_side(height) && length == width * height
 }
 
-// What a question about a map is refused with, 0 for none.
-pub fn size_refusal(width: usize, height: usize, length: usize) -> u8
-    ensures { result ≡ first_of (size_rows width height length) }
+// What refuses a question about a map.
+#[tactic(auto, unfolding(refusals::specs::Answered::first_of))]
+pub fn check_size(width: usize, height: usize, length: usize) -> Result<(), Refusal>
+    ensures { number_in result ≡ first_of (size_rows width height length) }
 {
     if size_good(width, height, length) {
-        0
+        Ok(())
     } else {
-        23
+        Err(Refusal::MapSize)
     }
 }
 
-// What a question about one pixel of a map is refused with, 0 for none.
-pub fn pixel_refusal(width: usize, height: usize, length: usize, x: usize, y: usize) -> u8
-    ensures { result ≡ first_of (pixel_rows width height length x y) }
+// What refuses a question about one pixel of a map.
+#[tactic(auto, unfolding(refusals::specs::Answered::first_of, crate::specs::Map::inside))]
+pub fn check_pixel(
+    width: usize,
+    height: usize,
+    length: usize,
+    x: usize,
+    y: usize,
+) -> Result<(), Refusal>
+    ensures { number_in result ≡ first_of (pixel_rows width height length x y) }
 {
-    let refused = size_refusal(width, height, length);
-    if refused != 0 {
-        return refused;
+    check_size(width, height, length)?;
+    if x < width && y < height {
+        Ok(())
+    } else {
+        Err(Refusal::PixelOutside)
     }
-    if width <= x {
-        return 26;
-    }
-    if height <= y {
-        return 26;
-    }
-    0
 }
 
-// What a question about a map's cover is refused with, 0 for none.
-fn cover_refusal(width: usize, height: usize, length: usize, block: usize) -> u8
-    ensures { result ≡ first_of (cover_rows width height length block) }
+// What refuses a question about a map's cover.
+#[tactic(auto, unfolding(refusals::specs::Answered::first_of))]
+fn check_cover(width: usize, height: usize, length: usize, block: usize) -> Result<(), Refusal>
+    ensures { number_in result ≡ first_of (cover_rows width height length block) }
 {
-    let refused = size_refusal(width, height, length);
-    if refused != 0 {
-        return refused;
-    }
+    check_size(width, height, length)?;
     if is_block_even(block) {
-        return 4;
+        return Err(Refusal::BlockEven);
     }
     if is_block_large(block) {
-        return 5;
+        return Err(Refusal::BlockTooLarge);
     }
     if is_too_small(width, height, block) {
-        return 8;
+        return Err(Refusal::PictureSmallerThanBlock);
     }
-    0
+    Ok(())
 }
 
-// The cell of a pixel.
-pub fn cell_at(width: usize, height: usize, cells: &[f32], x: usize, y: usize) -> Got
-    ensures { result ≡ got_at width height cells.now x y }
-{
-    let refused = pixel_refusal(width, height, cells.len(), x, y);
-    if refused != 0 {
-        return Got::Refused(refused);
-    }
-    let i = y * width + x;
-    let c = Cell::of_cell(cells[i]);
-    Got::Cell(c)
-}
-
-// Whether the cell of a pixel is valid, which a finite number is.
-pub fn valid_at(width: usize, height: usize, cells: &[f32], x: usize, y: usize) -> Validity
-    ensures { result ≡ valid_at width height cells.now x y }
-{
-    let refused = pixel_refusal(width, height, cells.len(), x, y);
-    if refused != 0 {
-        return Validity::Refused(refused);
-    }
-    let i = y * width + x;
-    let v = is_finite(cells[i]);
-    Validity::Is(v)
-}
-
-// How many cells are valid.
-pub fn count_valid(width: usize, height: usize, cells: &[f32]) -> Number
-    ensures { result ≡ valid_count width height cells.now }
-{
-    let refused = size_refusal(width, height, cells.len());
-    if refused != 0 {
-        return Number::Refused(refused);
-    }
-    let n = valids_in(cells);
-    Number::Is(n)
-}
-
-// How many numbers of a slice are finite.
+// How many numbers of a slice are finite. A loop, since a filtered count takes three times as long.
 pub fn valids_in(cells: &[f32]) -> usize
     ensures { result ≡ valids cells.now }
 {
     let mut n: usize = 0;
-    let mut i: usize = 0;
-    while i < cells.len() {
-        if is_finite(cells[i]) {
+    for x in cells {
+        if is_finite(*x) {
             n += 1;
         }
-        i += 1;
     }
     n
 }
 
-// How many cells of the inner frame are valid: of each of its rows the part that lies within.
-fn inner_valids(width: usize, height: usize, r: usize, cells: &[f32]) -> usize
-    requires { Framed width height r (length cells.now) }
-    ensures { result ≡ inner_valids width height r cells.now }
-{
-    let mut n: usize = 0;
-    let mut y = r;
-    while y < height - r {
-        let row = y * width;
-        n += valids_in(&cells[row + r..row + (width - r)]);
-        y += 1;
-    }
-    n
-}
-
-// The cover figure by a block: valid cells of the inner frame to a thousand, rounded down.
-pub fn cover(width: usize, height: usize, cells: &[f32], block: usize) -> Number
-    ensures { result ≡ cover_of width height cells.now block }
-{
-    let refused = cover_refusal(width, height, cells.len(), block);
-    if refused != 0 {
-        return Number::Refused(refused);
-    }
-    let r = block / 2;
-    let n = inner_valids(width, height, r, cells);
-    Number::Is(1000 * n / ((width - 2 * r) * (height - 2 * r)))
-}
-
-// The lesser of a further number and the least: an equal one leaves the least.
+// The lesser of a further number and the least: an equal one leaves the least, which `min` does not promise of the two zeros.
 fn lesser(x: f32, least: f32) -> f32
     ensures { result ≡ lesser_of x least }
 {
@@ -238,42 +147,20 @@ fn valid_or(x: f32, z: f32) -> f32
 }
 
 // The least and the greatest of a slice's valid numbers. Infinities stand for none, so that no step asks whether it is the first.
-pub fn range_in(cells: &[f32]) -> Range
+pub fn range_in(cells: &[f32]) -> Option<Span>
     ensures { result ≡ range_of cells.now }
 {
-    let top = f32::from_bits(0x7F80_0000);
-    let mut least = top;
-    let mut greatest = -top;
-    let mut i: usize = 0;
-    while i < cells.len() {
-        let x = cells[i];
-        least = lesser(valid_or(x, top), least);
-        greatest = greater(valid_or(x, -top), greatest);
-        i += 1;
+    let mut least = f32::INFINITY;
+    let mut greatest = f32::NEG_INFINITY;
+    for x in cells {
+        least = lesser(valid_or(*x, f32::INFINITY), least);
+        greatest = greater(valid_or(*x, f32::NEG_INFINITY), greatest);
     }
-    if is_finite(least) {
-        Range::Span(least, greatest)
-    } else {
-        Range::None
-    }
-}
-
-// The least and the greatest valid number of a map.
-pub fn range_valid(width: usize, height: usize, cells: &[f32]) -> Extent
-    ensures { result ≡ valid_range width height cells.now }
-{
-    let refused = size_refusal(width, height, cells.len());
-    if refused != 0 {
-        return Extent::Refused(refused);
-    }
-    match range_in(cells) {
-        Range::None => Extent::None,
-        Range::Span(lo, hi) => Extent::Span(lo, hi),
-    }
+    is_finite(least).then_some(Span { least, greatest })
 }
 
 // A map that borrows the caller's own cells.
-#[derive(Drop)]
+#[derive(Clone, Copy, Debug)]
 pub struct MapView<'a> {
     pub width: usize,
     pub height: usize,
@@ -292,31 +179,72 @@ impl<'a> MapView<'a> {
         }
     }
 
-    // The cell of a pixel.
-    pub fn get(self, x: usize, y: usize) -> Got
-        ensures { result ≡ got_at self.entry.width self.entry.height self.entry.cells.now x y }
+    // The number in the buffer of a pixel.
+    #[tactic(auto, using(crate::proofs::Facts::seat))]
+    fn number_at(self, x: usize, y: usize) -> Result<f32, Refusal>
+        ensures { given_back result ≡ answer_for (first_of (pixel_rows self.entry.width self.entry.height (length self.entry.cells.now) x y)) (pixel self.entry.width self.entry.cells.now x y) }
     {
-        cell_at(self.width, self.height, self.cells, x, y)
+        check_pixel(self.width, self.height, self.cells.len(), x, y)?;
+        Ok(self.cells[y * self.width + x])
     }
 
-    // Whether the cell of a pixel is valid.
-    pub fn valid(self, x: usize, y: usize) -> Validity
-        ensures { result ≡ valid_at self.entry.width self.entry.height self.entry.cells.now x y }
+    // The cell of a pixel.
+    #[tactic(auto, unfolding(crate::specs::Map::got_at))]
+    pub fn get(self, x: usize, y: usize) -> Result<Cell, Refusal>
+        ensures { given_back result ≡ got_at self.entry.width self.entry.height self.entry.cells.now x y }
     {
-        valid_at(self.width, self.height, self.cells, x, y)
+        let number = self.number_at(x, y)?;
+        Ok(Cell::from(number))
+    }
+
+    // Whether the cell of a pixel is valid, which a finite number is.
+    #[tactic(auto, unfolding(crate::specs::Map::valid_at))]
+    pub fn valid(self, x: usize, y: usize) -> Result<bool, Refusal>
+        ensures { given_back result ≡ valid_at self.entry.width self.entry.height self.entry.cells.now x y }
+    {
+        let number = self.number_at(x, y)?;
+        Ok(is_finite(number))
     }
 
     // How many cells are valid.
-    pub fn valid_count(self) -> Number
-        ensures { result ≡ valid_count self.entry.width self.entry.height self.entry.cells.now }
+    #[tactic(auto, unfolding(crate::specs::Map::valid_count))]
+    pub fn valid_count(self) -> Result<usize, Refusal>
+        ensures { given_back result ≡ valid_count self.entry.width self.entry.height self.entry.cells.now }
     {
-        count_valid(self.width, self.height, self.cells)
+        check_size(self.width, self.height, self.cells.len())?;
+        Ok(valids_in(self.cells))
     }
 
-    // The least and the greatest valid number.
-    pub fn valid_range(self) -> Extent
-        ensures { result ≡ valid_range self.entry.width self.entry.height self.entry.cells.now }
+    // The least and the greatest valid number, where one is valid.
+    #[tactic(auto, unfolding(crate::specs::Map::valid_range))]
+    pub fn valid_range(self) -> Result<Option<Span>, Refusal>
+        ensures { given_back result ≡ valid_range self.entry.width self.entry.height self.entry.cells.now }
     {
-        range_valid(self.width, self.height, self.cells)
+        check_size(self.width, self.height, self.cells.len())?;
+        Ok(range_in(self.cells))
     }
+
+    // How many cells of the inner frame are valid: of each of its rows the part that lies within.
+    fn inner_valids(self, r: usize) -> usize
+        requires { Framed self.width self.height r (length self.cells.now) }
+        ensures { result ≡ inner_valids self.entry.width self.entry.height r self.entry.cells.now }
+    {
+        let mut n: usize = 0;
+        for y in r..self.height - r {
+            let row = y * self.width;
+            n += valids_in(&self.cells[row + r..row + (self.width - r)]);
+        }
+        n
+    }
+}
+
+// The cover figure by a block: valid cells of the inner frame to a thousand, rounded down.
+#[tactic(auto, unfolding(crate::specs::Map::cover_of))]
+pub fn cover(map: MapView, block: usize) -> Result<usize, Refusal>
+    ensures { given_back result ≡ cover_of map.entry.width map.entry.height map.entry.cells.now block }
+{
+    check_cover(map.width, map.height, map.cells.len(), block)?;
+    let r = block / 2;
+    let n = map.inner_valids(r);
+    Ok(1000 * n / ((map.width - 2 * r) * (map.height - 2 * r)))
 }

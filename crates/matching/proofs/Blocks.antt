@@ -18,7 +18,7 @@ use Rattle.lists.proofs.Tests.{lt-or-le}
 use Rattle.options.specs.declared.RawCost.TheVariants.{Blank}
 use Rattle.options.specs.Costs.{raw_of}
 use Rattle.maps.specs.declared.Cell.TheVariants.{Mark}
-use Rattle.choices.specs.declared.block.Best.TheVariants.{Nothing}
+use Rattle.std.proofs.Common.{None}
 use Rattle.choices.specs.declared.block.Gates.{Gates}
 use Rattle.choices.specs.declared.block.Seen.{Seen}
 use Rattle.choices.specs.declared.block.Seen.TheVariants.{Own, Turned}
@@ -31,7 +31,7 @@ use Rattle.choices.specs.Seen.{seen_as}
 abbrev Flat : List Float → ℕ → Type 0
 Flat raw n = (i : ℕ) → i < n → get_or raw i nan ≡ inf true
 
-none_found : (n k : ℕ) → walk better k Nothing (list_of n (λ _. Blank)) ≡ Nothing
+none_found : (n k : ℕ) → walk better k None (list_of n (λ _. Blank)) ≡ None
 unfolding walk list_of
 none_found zero k = refl
 none_found (suc n) k = none_found n (suc k)

@@ -1,11 +1,9 @@
 -- Lemmas that belong to no one function.
 pub mod Fitting
-pub mod SumPaths
-pub mod ThirdVolume
+pub mod Lengths
 pub mod Ranged
 pub mod Blocks
 pub mod Turns
-pub mod Tail
 pub mod Outcomes
 pub mod Ranges
 pub mod SideMaps

@@ -1,20 +1,23 @@
 -- The outcome of a match. Assumes nothing.
-use Prim.Native.Nat.{ℕ, zero, suc, ◌+◌, ◌*◌, ◌-◌}
-use mathlib.Core.Path.{◌≡◌, refl}
+use Prim.Native.Nat.{ℕ, ◌+◌, ◌*◌, ◌-◌, ◌≤◌}
+use mathlib.Core.Path.{◌≡◌, refl, sym}
 use mathlib.Core.Bool.{Bool, true, false, cond}
 use mathlib.Core.List.{List, ◌++◌}
 use native.Mathlib.Nat.{sub-zero}
 use borrow.Author.Tests.{not-false}
 use lib.IntN.{pos}
 use lib.Ieee.{Float, fin}
-use lib.ListN.{drop, replicate}
+use lib.ListN.{drop, replicate, get_or}
 use Rattle.lists.specs.Lists.{cleared}
 use Rattle.lists.proofs.Tests.{and_both}
 use Rattle.options.specs.Options.{uses_paths}
 use Rattle.options.specs.declared.BlockMatchOptions.{BlockMatchOptions}
 use Rattle.calls.specs.declared.Call.{Call}
 use Rattle.calls.specs.declared.Output.TheVariants.{Map}
+use Rattle.refusals.specs.declared.Refusal.{Refusal}
+use Rattle.refusals.specs.Numbers.{number_of}
 use Rattle.refusals.specs.Answered.{ByPlace}
+use Rattle.refusals.proofs.Cases.{after-refused}
 use Rattle.refusals.proofs.Answering.{answers-by-place}
 use Rattle.refusals.proofs.Outcomes.{same_outcome, same_after}
 use Rattle.calls.specs.Refusals.{table, refusal, whole_cells_of, float_cells}
@@ -30,9 +33,11 @@ module _ (left : List ℕ) (w h : ℕ) (right : List ℕ) (w' h' : ℕ) (o : Blo
   abbrev q : Call
   q = match_call left w h right w' h' o outLength whole_length floatLength
 
-  pub fitted : Accepted q → MatchFits left right w h o outLength whole_length
-  fitted a = record {
+  pub fitted : Accepted q → ((i : ℕ) → get_or left i 0 ≤ 255) → ((i : ℕ) → get_or right i 0 ≤ 255) → MatchFits left right w h o outLength whole_length
+  fitted a first second = record {
     volume = record { sizes = sized q a.sizes left right (cells_in w h o) whole_length refl refl refl a.whole_cells; whole = a.sizes.whole };
+    first = record { bytes = a.sizes.left-bytes; small = first };
+    second = record { bytes = a.sizes.right-bytes; small = second };
     some = a.sizes.some;
     out-cells = a.out-cells;
     penalties = λ semi. and_both _ _ (not-false _ (rw semi at a.penalties));
@@ -47,9 +52,13 @@ module _ (left : List ℕ) (w h : ℕ) (right : List ℕ) (w' h' : ℕ) (o : Blo
 
 module _ (q : Call) (o : BlockMatchOptions) (left right : List ℕ) (out : List Float) (whole : List ℕ) (float : List Float) where
   -- a refused call leaves everything as it was
-  pub refused : (n : ℕ) → n ≡ refusal q → (n ≡ 0 → ⊥) → MatchOutcome n q o left right out out whole whole float float
-  refused zero e some = absurd (some refl)
-  refused (suc n) e some = record { answer = e; output = refl; wholes = refl; floats = refl }
+  pub refused : (e : Refusal) → number_of e ≡ refusal q → MatchOutcome (number_of e) q o left right out out whole whole float float
+  refused e same = record {
+    answer = same;
+    output = sym (after-refused e (map_of q.left_w q.left_h o left right) out refl);
+    wholes = sym (after-refused e (cleared 0 (whole_cells_of q) whole) whole refl);
+    floats = sym (after-refused e (cleared (fin false 0 (pos 0)) (float_cells q Map) float) float refl);
+  }
 
   -- one that is not has made the map and cleared both rooms
   pub made : (out' : List Float) (whole' : List ℕ) (part : List Float) (n : ℕ) → 0 ≡ refusal q → out' ≡ map_of q.left_w q.left_h o left right → whole' ≡ cleared 0 (whole_cells_of q) whole

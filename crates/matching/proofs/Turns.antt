@@ -1,9 +1,9 @@
 -- The left map from what stays of the right volume. Assumes nothing.
-use Prim.Native.Nat.{ℕ, ◌-◌, ◌*◌, ◌≤◌}
+use Prim.Native.Nat.{ℕ, ◌*◌, ◌≤◌}
 use mathlib.Core.Path.{◌≡◌, sym, ap, ◌∙◌}
 use mathlib.Core.Bool.{Bool, true, false, cond}
 use mathlib.Core.List.{List, map}
-use native.Mathlib.Nat.{mul_comm, sub-zero}
+use native.Mathlib.Nat.{mul_comm}
 use native.Mathlib.Omega.{arith}
 use lib.IntN.{ℤ}
 use lib.Ieee.{Float, inf}
@@ -20,7 +20,6 @@ use Rattle.maps.specs.Cells.{in_buffer}
 use Rattle.choices.specs.declared.subpixel.Search.{Search}
 use Rattle.choices.specs.SemiGlobal.{semi_map}
 use Rattle.paths.specs.Bounds.{Bounded}
-use Rattle.paths.specs.Room.{run}
 use Rattle.paths.specs.Walk.{path_sums}
 use Rattle.paths.specs.Cost.{matching_costs, turned_costs}
 use Rattle.paths.proofs.Ranges.{costs-range}
@@ -28,7 +27,6 @@ use Rattle.paths.proofs.Turned.{matching-turned}
 use Rattle.matching.specs.Maps.{half, count_of, search_of, volume_of, sums_from}
 use Rattle.matching.specs.Inner.{MatchFits, MapSizes, cells_in, VolumeRanged, RightKept}
 use Rattle.matching.proofs.Ranged.{ranged}
-use Rattle.matching.proofs.Tail.{take-shorter}
 
 -- what a fit says of sizes
 pub sized : {left right : List ℕ} {w h : ℕ} {o : BlockMatchOptions} {outLength whole_length : ℕ} → MatchFits left right w h o outLength whole_length → MapSizes w h o outLength
@@ -79,17 +77,11 @@ module _ {left right : List ℕ} {w h : ℕ} {o : BlockMatchOptions} {room : Lis
   room-is off long = sym (take_all (cells_in w h o) room (omega arith)) ∙ kept-volume off
 
   -- the left map, by the sums that take the place of the first volume
-  pub turned-done : (s : Search) (first : ℤ) (room₂ out : List Float) → s ≡ search_of o → first ≡ o.min_disparity → uses_paths o.mode ≡ true → half o ≤ 15
-      → run (s.count * (w * h)) 0 room₂ ≡ path_sums w h s.count o.sgm_p1 o.sgm_p2 (turned_costs w h first s.count (run (s.count * (w * h)) 0 room))
-      → out ≡ map in_buffer (semi_map w h (half o) s (take (s.count * (w * h) - 0) room₂))
+  pub turned-done : (s : Search) (first : ℤ) (out : List Float) → s ≡ search_of o → first ≡ o.min_disparity → uses_paths o.mode ≡ true → half o ≤ 15
+      → out ≡ map in_buffer (semi_map w h (half o) s (path_sums w h s.count o.sgm_p1 o.sgm_p2 (turned_costs w h first s.count (take (s.count * (w * h)) room))))
       → out ≡ map in_buffer (semi_map w h (half o) (search_of o) (sums_from w h o (volume_of w h o Left left right)))
-  turned-done s first room₂ out is ef on few summed chosen =
+  turned-done s first out is ef on few chosen =
       chosen
-      ∙ ap (λ l. map in_buffer (semi_map w h (half o) s l)) (ap (λ n. take n room₂) (sub-zero (s.count * (w * h))) ∙ summed)
       ∙ ap (λ (k : Search). map in_buffer (semi_map w h (half o) k (path_sums w h k.count o.sgm_p1 o.sgm_p2 (turned_costs w h first k.count (take (k.count * (w * h)) room))))) is
       ∙ ap (λ (f : ℤ). map in_buffer (semi_map w h (half o) (search_of o) (path_sums w h (count_of o) o.sgm_p1 o.sgm_p2 (turned_costs w h f (count_of o) (take (cells_in w h o) room))))) ef
       ∙ ap (λ l. map in_buffer (semi_map w h (half o) (search_of o) (path_sums w h (count_of o) o.sgm_p1 o.sgm_p2 l))) (left-costs on few)
-
-  -- the part of the room that is lent keeps it too
-  pub kept-front : (n : ℕ) → cells_in w h o ≤ n → RightKept left right w h o (take (n - 0) room)
-  kept-front n few = record { first = k.first; second = k.second; held = rw (sub-zero n) (take-shorter (cells_in w h o) n room few) ∙ k.held }

@@ -1,5 +1,5 @@
 -- What the inner functions ask of an accepted match, and what they leave. Definitions only.
-use Rattle.std.specs.Prelude.{ℕ, ◌+◌, ◌*◌, ◌≤◌, ◌<◌, ◌≡◌, true, false, cond, List, pos, nat_abs, Float, length, get_or, take, drop, replicate}
+use Rattle.std.specs.Prelude.{ℕ, ◌+◌, ◌*◌, ◌≤◌, ◌<◌, ◌≡◌, true, false, cond, List, pos, nat_abs, Float, length, get_or, take, replicate}
 use Rattle.std.specs.Float.{nan, inf, fin}
 use Rattle.lists.specs.Lists.{cleared}
 use Rattle.options.specs.Limits.{side_most, most_count, first_most, is_penalty}
@@ -10,11 +10,7 @@ use Rattle.options.specs.declared.Side.TheVariants.{Left, Right}
 use Rattle.options.specs.declared.BlockMatchOptions.{BlockMatchOptions}
 use Rattle.windows.specs.Window.{cells}
 use Rattle.costs.specs.Rooms.{VolumeAccepted, Picture}
-use Rattle.choices.specs.LeftRight.{left_right}
-use Rattle.paths.specs.Bounds.{Bounded}
 use Rattle.paths.specs.Cost.{matching_costs}
-use Rattle.paths.specs.Room.{run}
-use Rattle.paths.specs.Walk.{path_sums}
 use Rattle.matching.specs.Maps.{half, count_of, volume_of, side_map}
 
 -- the count is no negative number
@@ -33,6 +29,8 @@ side_cells w h o = cond (uses_paths o.mode) (3 * cells_in w h o) (cells_in w h o
 -- two pictures and options that are accepted, a map's cells, and the whole-number room
 pub record MatchFits (left right : List ℕ) (w h : ℕ) (o : BlockMatchOptions) (outLength whole_length : ℕ) : Type 0 where
   pub volume : VolumeAccepted left right w h o (cells_in w h o) whole_length
+  pub first : Picture w h left
+  pub second : Picture w h right
   pub some : 1 ≤ count_of o
   pub out-cells : outLength ≡ w * h
   pub penalties : uses_paths o.mode ≡ true → (is_penalty o.sgm_p1 ≡ true) × (is_penalty o.sgm_p2 ≡ true)
@@ -94,30 +92,6 @@ pub record TurningRoom (w h : ℕ) (o : BlockMatchOptions) (outLength : ℕ) (ro
 abbrev pub LeftMade : ℕ → ℕ → BlockMatchOptions → List Float → List Float → Type 0
 LeftMade w h o room out' = (left right : List ℕ) → RightKept left right w h o room → out' ≡ side_map w h o (volume_of w h o Left left right)
 
--- ---- path sums
-
--- a room of three volumes of count·w·h cells
-pub record ThreeVolumes (length w h count : ℕ) : Type 0 where
-  pub wide : w ≤ side_most
-  pub high : h ≤ side_most
-  pub some : 1 ≤ count
-  pub few : count ≤ most_count
-  pub cells : length ≡ 3 * (count * (w * h))
-
--- the matching costs of the raw volume that is the third of a room
-abbrev pub costs_in : ℕ → ℕ → ℕ → List Float → List Float
-costs_in w h count room = matching_costs (w * h) count (run (count * (w * h)) (2 * (count * (w * h))) room)
-
--- three volumes, and costs and penalties in their range
-pub record SumsRoom (w h count : ℕ) (p1 p2 : Float) (room : List Float) : Type 0 where
-  pub volumes : ThreeVolumes (length room) w h count
-  pub bounded : Bounded p1 p2 (costs_in w h count room)
-
--- the path sums are the second volume, and the matching costs the first
-pub record SumsMade (w h count : ℕ) (p1 p2 : Float) (room room' : List Float) : Type 0 where
-  pub sums : run (count * (w * h)) (count * (w * h)) room' ≡ path_sums w h count p1 p2 (costs_in w h count room)
-  pub costs : run (count * (w * h)) 0 room' ≡ costs_in w h count room
-
 -- ---- both sides' maps
 
 -- a match that is accepted, and all that it needs of the float room
@@ -129,20 +103,4 @@ pub record MatchRoom (left right : List ℕ) (w h : ℕ) (o : BlockMatchOptions)
 pub record MapMade (w h : ℕ) (made out' : List Float) (whole whole' : List ℕ) (room room' : List Float) : Type 0 where
   pub map : out' ≡ made
   pub wholes : whole' ≡ cleared 0 (5 * cells w h) whole
-  pub rooms : room' ≡ replicate (length room) (fin false 0 (pos 0))
-
--- the right map is behind the part of the room that a side's map works in, and what stays of its raw volume at the beginning
-pub record RightMade (w h : ℕ) (o : BlockMatchOptions) (left right : List ℕ) (whole whole' : List ℕ) (room' : List Float) : Type 0 where
-  pub map : drop (side_cells w h o) room' ≡ side_map w h o (volume_of w h o Right left right)
-  pub wholes : whole' ≡ cleared 0 (5 * cells w h) whole
-  pub kept : take (cells_in w h o) room' ≡ kept_of w h o (volume_of w h o Right left right)
-
--- what stays of the right volume in all of that room
-pub record TestingRoom (w h : ℕ) (o : BlockMatchOptions) (outLength : ℕ) (room : List Float) : Type 0 where
-  pub turning : TurningFits w h o outLength room
-  pub cells : length room ≡ side_cells w h o + w * h
-
--- the left map, tested against the right one that is behind in the room, is in the output, and the room is zero
-pub record LeftTested (w h : ℕ) (o : BlockMatchOptions) (room : List Float) (out' room' : List Float) : Type 0 where
-  pub map : (left right : List ℕ) → RightKept left right w h o room → out' ≡ left_right w o.lr_max_diff (side_map w h o (volume_of w h o Left left right)) (drop (side_cells w h o) room)
   pub rooms : room' ≡ replicate (length room) (fin false 0 (pos 0))

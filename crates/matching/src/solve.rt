@@ -1,123 +1,59 @@
 // Both sides' maps and the left-right test, for a match that is accepted.
-ghost use Rattle.std.specs.Prelude.{length};
+ghost use Rattle.std.specs.Prelude.{◌≡◌, ◌*◌, length};
 ghost use Rattle.options.specs.declared.Side.TheVariants.{Left, Right};
+ghost use Rattle.lists.specs.Lists.{cleared};
+ghost use Rattle.windows.specs.Window.{cells};
 ghost use Rattle.choices.specs.LeftRight.{left_right};
 ghost use Rattle.matching.specs.Maps.{volume_of, side_map, map_of};
-ghost use Rattle.matching.specs.Inner.{MatchRoom, MapMade, RightMade, TestingRoom, LeftTested};
+ghost use Rattle.matching.specs.Inner.{MatchRoom, MapMade, SideRoom};
 
-use crate::direction::{solve_direction, turn_direction};
+use crate::Match;
 use choices::left_right::left_right;
-use lists::{clear_f32, copy_f32};
-use options::{BlockMatchOptions, Side};
+use options::Side;
 
-// The left map alone. The room is zero afterwards.
-fn solve_left(
-    left: &[u8],
-    right: &[u8],
-    w: usize,
-    h: usize,
-    opts: BlockMatchOptions,
-    out: &mut [f32],
-    whole: &mut [u64],
-    room: &mut [f32],
-)
-    requires { MatchRoom left.now right.now w h opts (length out.old) (length whole.old) (length room.old) }
-    ensures { MapMade w h (side_map w h opts (volume_of w h opts Left left.now right.now)) out.new whole.old whole.new room.old room.new }
-{
-    let kept = room.len() - w * h;
-    solve_direction(
-        left,
-        right,
-        w,
-        h,
-        opts,
-        Side::Left,
-        out,
-        whole,
-        &mut room[0..kept],
-    );
-    clear_f32(room);
-}
+impl Match<'_> {
+    // The left map, tested against the right one. The right map is made in the output and kept in `map`, and the left one comes
+    // from what stays of the right picture's raw costs.
+    fn solve_both(self, out: &mut [f32], whole: &mut [u64], work: &mut [f32], map: &mut [f32])
+        requires side_room { SideRoom self.pictures.left.now self.pictures.right.now self.pictures.w self.pictures.h self.opts (length out.old) (length whole.old) (length work.old) }
+        requires map_len { length map.old ≡ length out.old }
+        ensures made { out.new ≡ left_right self.entry.pictures.w self.entry.opts.lr_max_diff (side_map self.entry.pictures.w self.entry.pictures.h self.entry.opts (volume_of self.entry.pictures.w self.entry.pictures.h self.entry.opts Left self.entry.pictures.left.now self.entry.pictures.right.now)) (side_map self.entry.pictures.w self.entry.pictures.h self.entry.opts (volume_of self.entry.pictures.w self.entry.pictures.h self.entry.opts Right self.entry.pictures.left.now self.entry.pictures.right.now)) }
+        ensures wholes { whole.new ≡ cleared 0 (5 * cells self.entry.pictures.w self.entry.pictures.h) whole.old }
+    {
+        self.solve_direction(Side::Right, out, whole, work);
+        map.copy_from_slice(out);
+        self.turn_direction(out, work);
+        left_right(
+            out,
+            map,
+            self.pictures.w,
+            self.pictures.h,
+            self.opts.lr_max_diff,
+        );
+    }
 
-// The right map, made in the output and kept behind the part of the room that a side's map works in; what stays of its raw
-// costs is kept there too.
-fn keep_right(
-    left: &[u8],
-    right: &[u8],
-    w: usize,
-    h: usize,
-    opts: BlockMatchOptions,
-    out: &mut [f32],
-    whole: &mut [u64],
-    room: &mut [f32],
-)
-    requires { MatchRoom left.now right.now w h opts (length out.old) (length whole.old) (length room.old) }
-    ensures { RightMade w h opts left.now right.now whole.old whole.new room.new }
-{
-    let end = room.len();
-    let kept = end - w * h;
-    solve_direction(
-        left,
-        right,
-        w,
-        h,
-        opts,
-        Side::Right,
-        out,
-        whole,
-        &mut room[0..kept],
-    );
-    copy_f32(&mut room[kept..end], out);
-}
+    // The map, in a room for a side's map and one for the right map.
+    fn make_map(self, out: &mut [f32], whole: &mut [u64], work: &mut [f32], map: &mut [f32])
+        requires side_room { SideRoom self.pictures.left.now self.pictures.right.now self.pictures.w self.pictures.h self.opts (length out.old) (length whole.old) (length work.old) }
+        requires map_len { length map.old ≡ length out.old }
+        ensures made { out.new ≡ map_of self.entry.pictures.w self.entry.pictures.h self.entry.opts self.entry.pictures.left.now self.entry.pictures.right.now }
+        ensures wholes { whole.new ≡ cleared 0 (5 * cells self.entry.pictures.w self.entry.pictures.h) whole.old }
+    {
+        if self.opts.lr_consistency {
+            self.solve_both(out, whole, work, map);
+        } else {
+            self.solve_direction(Side::Left, out, whole, work);
+        }
+    }
 
-// The left map, from what stays of the right picture's raw costs, tested against the right map that was kept in the room, which
-// is zero afterwards.
-fn test_left(out: &mut [f32], room: &mut [f32], w: usize, h: usize, opts: BlockMatchOptions)
-    requires { TestingRoom w h opts (length out.old) room.old }
-    ensures { LeftTested w h opts room.old out.new room.new }
-{
-    let end = room.len();
-    let kept = end - w * h;
-    turn_direction(out, &mut room[0..kept], w, h, opts);
-    left_right(out, &room[kept..end], w, h, opts.lr_max_diff);
-    clear_f32(room);
-}
-
-// The left map, tested against the right one.
-fn solve_both(
-    left: &[u8],
-    right: &[u8],
-    w: usize,
-    h: usize,
-    opts: BlockMatchOptions,
-    out: &mut [f32],
-    whole: &mut [u64],
-    room: &mut [f32],
-)
-    requires { MatchRoom left.now right.now w h opts (length out.old) (length whole.old) (length room.old) }
-    ensures { MapMade w h (left_right w opts.lr_max_diff (side_map w h opts (volume_of w h opts Left left.now right.now)) (side_map w h opts (volume_of w h opts Right left.now right.now))) out.new whole.old whole.new room.old room.new }
-{
-    keep_right(left, right, w, h, opts, out, whole, room);
-    test_left(out, room, w, h, opts);
-}
-
-// The map of a match that is accepted.
-pub fn solve(
-    left: &[u8],
-    right: &[u8],
-    w: usize,
-    h: usize,
-    opts: BlockMatchOptions,
-    out: &mut [f32],
-    whole: &mut [u64],
-    room: &mut [f32],
-)
-    requires { MatchRoom left.now right.now w h opts (length out.old) (length whole.old) (length room.old) }
-    ensures { MapMade w h (map_of w h opts left.now right.now) out.new whole.old whole.new room.old room.new }
-{
-    if opts.lr_consistency {
-        solve_both(left, right, w, h, opts, out, whole, room);
-    } else {
-        solve_left(left, right, w, h, opts, out, whole, room);
+    // The map of a match that is accepted. The room is zero afterwards.
+    pub fn solve(self, out: &mut [f32], whole: &mut [u64], room: &mut [f32])
+        requires { MatchRoom self.pictures.left.now self.pictures.right.now self.pictures.w self.pictures.h self.opts (length out.old) (length whole.old) (length room.old) }
+        ensures { MapMade self.entry.pictures.w self.entry.pictures.h (map_of self.entry.pictures.w self.entry.pictures.h self.entry.opts self.entry.pictures.left.now self.entry.pictures.right.now) out.new whole.old whole.new room.old room.new }
+    {
+        let kept = room.len() - self.pictures.w * self.pictures.h;
+        let (work, map) = room.split_at_mut(kept);
+        self.make_map(out, whole, work, map);
+        room.fill(0.0);
     }
 }

@@ -1,75 +1,31 @@
--- What stands at a place of a header: words, white space and comments, digits and numbers as the code holds them. Assumes nothing.
-use Prim.Native.Nat.{ℕ, ◌+◌, ◌-◌, ◌*◌, ◌≤◌, ◌<◌, zero-le, min}
-use mathlib.Core.Path.{◌≡◌, refl, sym, ap, ◌∙◌, subst}
-use mathlib.Core.Bool.{Bool, true, false, cond, true≢false}
-use mathlib.Core.List.{List, [], ◌∷◌}
+-- What stands at the front of a header: words, white space and comments, digits and numbers as the code holds them. Assumes nothing.
+use Rattle.std.proofs.Common.{◌≡◌, ℕ, ◌+◌, ◌-◌, ◌*◌, ◌<◌, ◌≤◌, min, zero-le, Bool, true, false, cond, List, [], ◌∷◌, length, get_or, take, drop, refl, ap, ◌∙◌, arith, length-take, le-leb, eq-eqb, ne_eqb}
+use Rattle.std.specs.Cmp.Lexicographic.{pointwise}
 use mathlib.Core.Logic.{⊎_elim}
-use native.Mathlib.Omega.{arith}
-use native.Mathlib.Nat.{add_assoc}
 use native.Mathlib.Numerals.{add-one}
-use lib.ListN.{length, get_or, take, drop, drop_of_length-le, length-drop, length-take}
-use lib.Seq.{drop-cons, drop-drop}
+use lib.ListN.{drop_of_length-le}
+use lib.Seq.{drop-cons}
 use lib.Dec.{eqb}
-use borrow.Author.Tests.{lt-ltb, le-ltb, le-leb, lt-leb, eq-eqb, ne_eqb}
+use borrow.Author.Tests.{lt-ltb, le-ltb, lt-leb}
 use Rattle.lists.proofs.Tests.{and_both, lt-or-le}
-use Rattle.refusals.specs.Steps.{Or, refused, Taken}
+use Rattle.refusals.specs.Steps.{Or, is, refused, Taken}
+use Rattle.refusals.proofs.Stepwise.{same-result}
 use Rattle.texts.specs.Digits.{is_digit, all_digits, decimal_from}
-use Rattle.netpbm.specs.declared.header.Found.{Found}
-use Rattle.netpbm.specs.declared.header.Found.TheVariants as found
-use Rattle.netpbm.specs.Header.{starts_with, is_white, ends_line, after_blanks, after_comment, digits_of, take_word, take_blanks, take_number, take_spaced, take_ended}
-use Rattle.netpbm.specs.Inner.{held, number_most, Place, NumberAt, FoundAs}
+use Rattle.netpbm.specs.Header.{starts_with, is_white, ends_line, after_blanks, after_comment, digits_of, take_blanks, take_number, take_spaced}
+use Rattle.netpbm.specs.Inner.{held, number_most, held_number}
 
 -- the bytes from a place on are the byte there and those after it
-pub byte_at : (s : List ℕ) (i : ℕ) → i < length s → drop i s ≡ get_or s i 0 ∷ drop (i + 1) s
+byte_at : (s : List ℕ) (i : ℕ) → i < length s → drop i s ≡ get_or s i 0 ∷ drop (i + 1) s
 byte_at s i h = rw add-one (drop-cons s i 0 h)
 
 -- ---- words
 
--- a word that stands at the front is no longer than the bytes
-pub word-within : (word s : List ℕ) → starts_with word s ≡ true → length word ≤ length s
+-- std's test of a word at the front is the definition's
+pub word_tested : (word s : List ℕ) → starts_with word s ≡ pointwise eqb (take (length word) s) word
 unfolding starts_with
-word-within [] s e = zero-le
-word-within (c ∷ word) [] e = absurd (true≢false (sym e))
-word-within (c ∷ word) (b ∷ s) e = omega (arith, word-within word s (and_both (eqb b c) (starts_with word s) e).1)
-
--- past a word that stands at a place
-pub past_word : {s rest : List ℕ} {at : ℕ} (word : List ℕ) → Place s rest at → starts_with word rest ≡ true → Place s (drop (length word) rest) (at + length word)
-past_word {s} {rest} {at} word p e = record {
-  within = omega (arith, word-within word rest e, length-drop at s, ap length p.here, p.within);
-  here = rw (← drop-drop, p.here);
-}
-
--- the first i bytes of a word stand at a place, so that the word stands there if the rest of it does
-pub record Matched (s : List ℕ) (at : ℕ) (word : List ℕ) (i : ℕ) : Type 0 where
-  pub within : i ≤ length word
-  pub inside : at + i ≤ length s
-  pub same : starts_with word (drop at s) ≡ starts_with (drop i word) (drop (at + i) s)
-
-module _ {s : List ℕ} {at : ℕ} {word : List ℕ} {i : ℕ} (m : Matched s at word i) where
-  -- all of the word is passed
-  pub matched-all : length word ≤ i → starts_with word (drop at s) ≡ true
-  unfolding starts_with
-  matched-all h = m.same ∙ rw (drop_of_length-le word h)
-
-  module _ (h : i < length word) where
-    -- the bytes end within the word
-    pub matched-cut : length s ≤ at + i → starts_with word (drop at s) ≡ false
-    unfolding starts_with
-    matched-cut l = m.same ∙ rw (drop_of_length-le s l, byte_at word i h)
-
-    module _ (l : at + i < length s) where
-      -- a byte that differs, and one that does not
-      pub matched-not : (get_or s (at + i) 0 ≡ get_or word i 0 → ⊥) → starts_with word (drop at s) ≡ false
-      unfolding starts_with
-      matched-not e = m.same ∙ rw (byte_at word i h, byte_at s (at + i) l, ne_eqb _ _ e)
-
-      pub matched-next : get_or s (at + i) 0 ≡ get_or word i 0 → Matched s at word (i + 1)
-      unfolding starts_with
-      matched-next e = record {
-        within = omega arith;
-        inside = omega arith;
-        same = m.same ∙ rw (byte_at word i h, byte_at s (at + i) l, eq-eqb _ _ e, ← add_assoc);
-      }
+word_tested [] s = refl
+word_tested (c ∷ word) [] = refl
+word_tested (c ∷ word) (b ∷ s) = rw (word_tested word s)
 
 -- ---- white space and comments
 
@@ -90,13 +46,47 @@ blanks-both (b ∷ s) =
 pub blanks-within : (s : List ℕ) → length (after_blanks s) ≤ length s
 blanks-within s = (blanks-both s).0
 
+-- a byte and what follows it: white space, a comment's first character, another one
+module _ {s rest : List ℕ} {b : ℕ} (front : s ≡ b ∷ rest) where
+  pub past_white : is_white b ≡ true → after_blanks s ≡ after_blanks rest
+  unfolding after_blanks
+  past_white e = rw (front, e)
+
+  pub past_hash : is_white b ≡ false → b ≡ 35 → after_blanks s ≡ after_comment rest
+  unfolding after_blanks
+  past_hash e h = rw (front, e, eq-eqb b 35 h)
+
+  pub past_other : is_white b ≡ false → (b ≡ 35 → ⊥) → after_blanks s ≡ s
+  unfolding after_blanks
+  past_other e h = rw (front, e, ne_eqb b 35 h)
+
+  -- within a comment: its end, and another byte
+  pub past_end : ends_line b ≡ true → after_comment s ≡ after_blanks rest
+  unfolding after_comment
+  past_end e = rw (front, e)
+
+  pub past_text : ends_line b ≡ false → after_comment s ≡ after_comment rest
+  unfolding after_comment
+  past_text e = rw (front, e)
+
+-- where the bytes end
+pub blanks_end : (s : List ℕ) → length s ≡ 0 → after_blanks s ≡ s
+unfolding after_blanks
+blanks_end [] e = refl
+blanks_end (b ∷ s) e = absurd (omega arith)
+
+pub comment_end : (s : List ℕ) → length s ≡ 0 → after_comment s ≡ after_blanks s
+unfolding after_blanks
+comment_end [] e = refl
+comment_end (b ∷ s) e = absurd (omega arith)
+
 -- ---- digits
 
 -- the digits at the front are digits
-pub digits-all : (s : List ℕ) → all_digits (digits_of s) ≡ true
+pub digits_all : (s : List ℕ) → all_digits (digits_of s) ≡ true
 unfolding digits_of
-digits-all [] = refl
-digits-all (b ∷ s) = go (is_digit b) refl (digits-all s)
+digits_all [] = refl
+digits_all (b ∷ s) = go (is_digit b) refl (digits_all s)
   where
     go : (t : Bool) → is_digit b ≡ t → all_digits (digits_of s) ≡ true → all_digits (cond t (b ∷ digits_of s) []) ≡ true
     go true e i = rw (e, i)
@@ -112,14 +102,10 @@ digits-front (b ∷ s) = elim (is_digit b) as (λ t. take (length (cond t (b ∷
 ]
 
 -- they are no more than the bytes
-pub digits-within : (s : List ℕ) → length (digits_of s) ≤ length s
+digits-within : (s : List ℕ) → length (digits_of s) ≤ length s
 digits-within s = omega (arith, rw length-take at (ap length (digits-front s)))
 
 -- ---- numbers as the code holds them
-
--- what is held is the smaller of the number and the most
-pub held-min : (n : ℕ) → held n ≡ min n number_most
-held-min n = ⊎_elim (λ (h : n < number_most). rw (lt-ltb n number_most h) (omega arith)) (λ (h : number_most ≤ n). rw (le-ltb n number_most h) (omega arith)) (lt-or-le n number_most)
 
 -- digits behind a number do not make it less
 decimal-least : (w : List ℕ) (n : ℕ) → n ≤ decimal_from n w
@@ -127,11 +113,10 @@ decimal-least [] n = omega arith
 decimal-least (b ∷ w) n = omega (arith, decimal-least w (n * 10 + (b - 48)))
 
 -- digits behind a number write the same as behind what is held of it
-pub held-from : (w : List ℕ) (n : ℕ) → held (decimal_from (held n) w) ≡ held (decimal_from n w)
+held-from : (w : List ℕ) (n : ℕ) → held (decimal_from (held n) w) ≡ held (decimal_from n w)
 held-from w n =
-    ⊎_elim (λ (h : n < number_most). rw (lt-ltb n number_most h))
-    (λ (h : number_most ≤ n). omega (arith, held-min n, held-min (decimal_from (held n) w), held-min (decimal_from n w), decimal-least w (held n), decimal-least w n))
-    (lt-or-le n number_most)
+    ⊎_elim (λ (h : n < number_most). let e : min n number_most ≡ n = omega arith in rw e)
+    (λ (h : number_most ≤ n). omega (arith, decimal-least w (held n), decimal-least w n)) (lt-or-le n number_most)
 
 -- the number of the first i digits of a word is n, as it is held
 pub record NumberSoFar (w : List ℕ) (n i : ℕ) : Type 0 where
@@ -142,85 +127,60 @@ pub record NumberSoFar (w : List ℕ) (n i : ℕ) : Type 0 where
 
 module _ {w : List ℕ} {n i : ℕ} (r : NumberSoFar w n i) where
   -- all digits are passed
-  pub numbered-all : length w ≤ i → n ≡ held (decimal_from 0 w)
-  numbered-all h = omega (arith, held-min n, rw (drop_of_length-le w h) at r.same)
+  pub numbered_all : length w ≤ i → n ≡ held (decimal_from 0 w)
+  numbered_all h = omega (arith, rw (drop_of_length-le w h) at r.same)
 
   module _ (h : i < length w) where
     -- the digit after them, and those behind it
-    pub numbered-digit : (is_digit (get_or w i 0) ≡ true) × (all_digits (drop (i + 1) w) ≡ true)
-    numbered-digit = and_both (is_digit (get_or w i 0)) (all_digits (drop (i + 1) w)) (rw (byte_at w i h) at r.digit)
+    pub numbered_digit : (is_digit (get_or w i 0) ≡ true) × (all_digits (drop (i + 1) w) ≡ true)
+    numbered_digit = and_both (is_digit (get_or w i 0)) (all_digits (drop (i + 1) w)) (rw (byte_at w i h) at r.digit)
 
     -- the number with that digit
     pub numbered_next : {m : ℕ} → m ≡ held (n * 10 + (get_or w i 0 - 48)) → NumberSoFar w m (i + 1)
     numbered_next {m} e = record {
       within = omega arith;
-      small = omega (arith, held-min (n * 10 + (get_or w i 0 - 48)));
-      digit = numbered-digit.1;
+      small = omega arith;
+      digit = numbered_digit.1;
       same = rw e (held-from (drop (i + 1) w) (n * 10 + (get_or w i 0 - 48)) ∙ rw (byte_at w i h) at r.same);
     }
 
--- ---- what was found at a place
+-- a number that was read is what is held of one that was taken
+pub held_is : (o : Or Taken) (n : ℕ) (rest : List ℕ) → is (record { number = n; rest = rest }) ≡ held_number o → (m : ℕ) × (o ≡ is (record { number = m; rest = rest })) × (n ≡ held m)
+held_is (is t) n rest e =
+    let same = same-result e in
+    let past : rest ≡ t.rest = ap (λ (u : Taken). u.rest) same in
+    (t.number, rw past, ap (λ (u : Taken). u.number) same)
+held_is (refused k) n rest e = cc
 
--- where it is a number, and where it is none
-pub found_number : (s : List ℕ) (t : Or Taken) (r : Found) (n next : ℕ) → FoundAs s t r → r ≡ found.Number n next → NumberAt s t n next
-found_number s t r n next h e = subst (λ (r : Found). FoundAs s t r) e h
+pub held_refused : (o : Or Taken) (n : ℕ) → refused n ≡ held_number o → o ≡ refused n
+held_refused (is t) n e = cc
+held_refused (refused k) n e = cc
 
-pub found_none : (s : List ℕ) (t : Or Taken) (r : Found) → FoundAs s t r → r ≡ found.None → t ≡ refused 41
-found_none s t r h e = subst (λ (r : Found). FoundAs s t r) e h
+-- ---- a number, by how many digits are at the front
+module _ (s : List ℕ) (long : ℕ) (e : long ≡ length (digits_of s)) where
+  pub digits_inside : long ≤ length s
+  digits_inside = omega (arith, digits-within s)
 
--- ---- a number, from the place past its digits
-module _ (s : List ℕ) (at past : ℕ) (inside : at ≤ length s) (e : past ≡ at + length (digits_of (drop at s))) where
-  -- the digits are the part up to that place
-  pub digits-part : take (past - at) (drop at s) ≡ digits_of (drop at s)
-  digits-part =
-      let long : past - at ≡ length (digits_of (drop at s)) = omega arith in
-      rw long (digits-front (drop at s))
-
-  -- that place lies within the bytes
-  pub digits-inside : past ≤ length s
-  digits-inside = omega (arith, digits-within (drop at s), length-drop at s)
+  -- the digits are the part up to there
+  pub digits_part : take long s ≡ digits_of s
+  digits_part = rw e (digits-front s)
 
   -- no digit, and one or more
-  pub number-none : past ≡ at → take_number (drop at s) ≡ refused 41
+  pub number_none : long ≡ 0 → refused 41 ≡ held_number (take_number s)
   unfolding take_number
-  number-none none = rw (lt-leb 1 (length (digits_of (drop at s))) (omega arith))
+  number_none none = rw (lt-leb 1 (length (digits_of s)) (omega arith))
 
-  pub number_is : (n : ℕ) → (past ≡ at → ⊥) → n ≡ held (decimal_from 0 (take (past - at) (drop at s))) → NumberAt s (take_number (drop at s)) n past
+  pub number_is : (n : ℕ) → (long ≡ 0 → ⊥) → n ≡ held (decimal_from 0 (digits_of s)) → is (record { number = n; rest = drop long s }) ≡ held_number (take_number s)
   unfolding take_number
-  number_is n some h = record {
-    value = record { number = decimal_from 0 (digits_of (drop at s)); rest = drop (length (digits_of (drop at s))) (drop at s) };
-    taken_is = rw (le-leb 1 (length (digits_of (drop at s))) (omega arith));
-    holds = h ∙ rw digits-part;
-    past = record { within = digits-inside; here = rw (drop-drop, ← e) };
-  }
+  number_is n some h = rw (le-leb 1 (length (digits_of s)) (omega arith), h, e)
 
 -- ---- a number after white space
-module _ (s : List ℕ) (at next : ℕ) (inside : at ≤ length s) (p : Place s (after_blanks (drop at s)) next) where
-  -- the lengths of what follows the white space and of what begins with it
-  longs : (length (after_blanks (drop at s)) ≡ length s - next) × (length (drop at s) ≡ length s - at) × (length (after_blanks (drop at s)) ≤ length (drop at s))
-  longs = (sym (ap length p.here) ∙ length-drop next s, length-drop at s, blanks-within (drop at s))
-
+module _ (s rest : List ℕ) (p : rest ≡ after_blanks s) where
   -- no white space, and some
-  pub spaced-none : next ≡ at → take_spaced (drop at s) ≡ refused 41
+  pub spaced_none : length rest ≡ length s → refused 41 ≡ held_number (take_spaced s)
   unfolding take_spaced take_blanks
-  spaced-none none = rw (le-ltb (length (after_blanks (drop at s))) (length (drop at s)) (omega (arith, longs)))
+  spaced_none none = rw (le-ltb (length (after_blanks s)) (length s) (omega (arith, ap length p)))
 
-  pub spaced-is : (next ≡ at → ⊥) → take_spaced (drop at s) ≡ take_number (drop next s)
+  pub spaced_is : (length rest ≡ length s → ⊥) → take_spaced s ≡ take_number rest
   unfolding take_spaced take_blanks
-  spaced-is some = rw (lt-ltb (length (after_blanks (drop at s))) (length (drop at s)) (omega (arith, longs, p.within)), p.here)
-
--- ---- a number and the word that ends it
-module _ (stop rest : List ℕ) {s : List ℕ} {n next : ℕ} (f : NumberAt s (take_number rest) n next) where
-  -- the word is there, and it is not
-  pub ended_is : starts_with stop (drop next s) ≡ true → NumberAt s (take_ended stop rest) n (next + length stop)
-  unfolding take_ended take_word
-  ended_is e = record {
-    value = record { number = f.value.number; rest = drop (length stop) f.value.rest };
-    taken_is = rw (f.taken_is, rw f.past.here at e);
-    holds = f.holds;
-    past = past_word stop f.past (rw f.past.here at e);
-  }
-
-  pub ended-not : starts_with stop (drop next s) ≡ false → take_ended stop rest ≡ refused 41
-  unfolding take_ended take_word
-  ended-not e = rw (f.taken_is, rw f.past.here at e)
+  spaced_is some = rw (lt-ltb (length (after_blanks s)) (length s) (omega (arith, ap length p, blanks-within s)), p)

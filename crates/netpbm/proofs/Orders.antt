@@ -12,6 +12,8 @@ use lib.Ieee.{Float, nan, inf, fin, binary32, is_nan, fits, to_bits, of_bits}
 use lib.Ieee.Bits.{of_bits-to_bits, to_bits-lt}
 use lib.Ieee.Fits.{inf-fits}
 use lib.Ieee.Scale.{finite}
+use Rattle.std.specs.Int.{w32, to_le_bytes, to_be_bytes, from_le_bytes, from_be_bytes}
+use Rattle.std.specs.Prelude.{reverse}
 use Rattle.netpbm.specs.declared.order.Order.{Order}
 use Rattle.netpbm.specs.declared.order.Order.TheVariants.{Little, Big}
 use Rattle.netpbm.specs.Order.{low_bytes, pattern_of, four_bytes_of, four_pattern}
@@ -19,13 +21,39 @@ use Rattle.netpbm.specs.Pfm.{outward, inward, cell_bytes, cells_bytes, file_cell
 
 -- ---- patterns
 
--- the four lowest bytes of a number, each from the number itself
-pub low-four : (p : ℕ) → p < 2 ^ 32 → low_bytes 4 p ≡ p % 256 ∷ p / 256 % 256 ∷ p / 65536 % 256 ∷ p / 16777216 ∷ []
+-- std's bytes of a number, in either order, are the definition's
+pub low_first : (p : ℕ) → to_le_bytes w32 p ≡ low_bytes 4 p
 unfolding low_bytes
-low-four p h =
-    let c : p / 256 / 256 ≡ p / 65536 = omega arith in
-    let d : p / 256 / 256 / 256 % 256 ≡ p / 16777216 = omega arith in
-    rw (d, c)
+low_first p =
+    let c : p / 256 / 256 % 256 ≡ p / 65536 % 256 = omega arith in
+    let d : p / 256 / 256 / 256 % 256 ≡ p / 16777216 % 256 = omega arith in
+    rw (c, d)
+
+pub high_first : (p : ℕ) → to_be_bytes w32 p ≡ reverse (low_bytes 4 p)
+unfolding low_bytes
+high_first p =
+    let c : p / 256 / 256 % 256 ≡ p / 65536 % 256 = omega arith in
+    let d : p / 256 / 256 / 256 % 256 ≡ p / 16777216 % 256 = omega arith in
+    rw (c, d)
+
+-- and so is std's number of four bytes
+pub from_low : (bytes : List ℕ) → length bytes ≡ 4 → from_le_bytes w32 bytes ≡ pattern_of bytes
+unfolding pattern_of
+from_low (a ∷ b ∷ c ∷ d ∷ []) e = omega arith
+from_low [] e = absurd (omega arith)
+from_low (a ∷ []) e = absurd (omega arith)
+from_low (a ∷ b ∷ []) e = absurd (omega arith)
+from_low (a ∷ b ∷ c ∷ []) e = absurd (omega arith)
+from_low (a ∷ b ∷ c ∷ d ∷ f ∷ s) e = absurd (omega arith)
+
+pub from_high : (bytes : List ℕ) → length bytes ≡ 4 → from_be_bytes w32 bytes ≡ pattern_of (reverse bytes)
+unfolding pattern_of
+from_high (a ∷ b ∷ c ∷ d ∷ []) e = omega arith
+from_high [] e = absurd (omega arith)
+from_high (a ∷ []) e = absurd (omega arith)
+from_high (a ∷ b ∷ []) e = absurd (omega arith)
+from_high (a ∷ b ∷ c ∷ []) e = absurd (omega arith)
+from_high (a ∷ b ∷ c ∷ d ∷ f ∷ s) e = absurd (omega arith)
 
 -- those bytes have the number
 low-back : (p : ℕ) → p < 2 ^ 32 → pattern_of (low_bytes 4 p) ≡ p
@@ -94,6 +122,6 @@ read-valid o bytes = go (of_bits binary32 (four_pattern o bytes))
 -- ---- bytes at a place
 
 -- the four bytes from a place on
-pub four-at : (s : List ℕ) (at : ℕ) → at + 4 ≤ length s → take 4 (drop at s) ≡ get_or s at 0 ∷ get_or s (at + 1) 0 ∷ get_or s (at + 2) 0 ∷ get_or s (at + 3) 0 ∷ []
-four-at s at h =
+pub four_at : (s : List ℕ) (at : ℕ) → at + 4 ≤ length s → take 4 (drop at s) ≡ get_or s at 0 ∷ get_or s (at + 1) 0 ∷ get_or s (at + 2) 0 ∷ get_or s (at + 3) 0 ∷ []
+four_at s at h =
     rw (drop-cons s at 0 (omega arith), drop-cons s (suc at) 0 (omega arith), drop-cons s (suc (suc at)) 0 (omega arith), drop-cons s (suc (suc (suc at))) 0 (omega arith), add-one, add-two, add-three)

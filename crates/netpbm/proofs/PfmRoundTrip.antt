@@ -8,7 +8,9 @@ use borrow.Author.Tests.{eq-eqb}
 use lib.ListN.{length, take}
 use lib.Seq.{take_at, drop_at}
 use lib.Ieee.{Float}
-use Rattle.refusals.specs.declared.Written.TheVariants as written
+use Rattle.std.specs.Prelude.{Result, Ok}
+use Rattle.refusals.specs.declared.Refusal.{Refusal}
+use Rattle.refusals.proofs.Numbers.{known_by}
 use Rattle.lists.specs.Rows.{bottom_up}
 use Rattle.refusals.specs.Steps.{is}
 use Rattle.refusals.specs.Writes.{WriteOutcome}
@@ -19,7 +21,6 @@ use Rattle.maps.proofs.Facts.{good}
 use Rattle.netpbm.specs.declared.order.Order.{Order}
 use Rattle.netpbm.specs.declared.order.Order.TheVariants.{Little}
 use Rattle.netpbm.specs.declared.raster.Size.{Size}
-use Rattle.netpbm.specs.declared.raster.Size.TheVariants as size
 use Rattle.netpbm.specs.Pfm.{cell_bytes, cells_bytes, pfm_of, file_cell, file_cells, read_pfm, NoInfinity}
 use Rattle.netpbm.specs.Outcome.{ReadOutcome}
 use Rattle.netpbm.proofs.Orders.{cell-back, cell-four, cells-length}
@@ -73,11 +74,11 @@ pfm-back w h cells s fit none e =
     )
 
 -- THEOREM: of the calls: a map that was written and whose bytes were read into as many cells is there again
-pub sent : (w h : ℕ) (cells : List Float) (n : ℕ) (out out' : List ℕ) (r : Size) (back back' : List Float) → AllFit cells → NoInfinity cells
-    → WriteOutcome 45 (written.Bytes n) (pfm_of w h cells) out out'
+pub sent : (w h : ℕ) (cells : List Float) (n : ℕ) (out out' : List ℕ) (r : Result Size Refusal) (back back' : List Float) → AllFit cells → NoInfinity cells
+    → WriteOutcome 45 (Ok n) (pfm_of w h cells) out out'
     → ReadOutcome r (read_pfm (take n out')) back back' → length back ≡ w * h
-    → (r ≡ size.Is w h) × (back' ≡ cells)
+    → (r ≡ Ok (record { width = w; height = h })) × (back' ≡ cells)
 sent w h cells n out out' r back back' fit none done read long =
     let says = pfm-back w h cells (take n out') fit none (written_is (pfm_of w h cells) n out out' done) in
     let roomy = eq-eqb (length back) (w * h) long in
-    (read.answers ∙ rw (says, roomy), read.outs ∙ rw (says, roomy))
+    (known_by r (Ok _) (read.answers ∙ rw (says, roomy)), read.outs ∙ rw (says, roomy))

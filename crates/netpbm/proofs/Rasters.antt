@@ -16,6 +16,10 @@ use Rattle.netpbm.specs.declared.order.Order.{Order}
 use Rattle.netpbm.specs.Pfm.{cell_bytes, cells_bytes, file_cell, file_cells}
 use Rattle.netpbm.proofs.Orders.{cells-length}
 
+-- the row at hand, and those passed with it, lie within the map
+pub row_room : (w h y : ℕ) (cells done : List Float) → Upward w h cells y done → 0 < y → length cells ≡ w * h → UpwardRoom w h y done
+row_room w h y cells done u some long = upward-room w h cells y done u some long
+
 module _ (o : Order) where
   -- ---- writing
 
@@ -90,8 +94,8 @@ module _ (o : Order) (s : List ℕ) (old : List Float) where
   }
 
   -- after the last
-  pub filled-all : (i : ℕ) (new : List Float) → Filled o s old i new → length old ≤ i → new ≡ file_cells o (length old) s
-  filled-all i new f l =
+  pub filled_all : (i : ℕ) (new : List Float) → Filled o s old i new → length old ≤ i → new ≡ file_cells o (length old) s
+  filled_all i new f l =
       let last : length old ≡ i = omega (arith, f.within) in
       f.stand ∙ rw (drop_of_length-le old l, append-nil, last)
 
@@ -114,24 +118,24 @@ module _ (o : Order) (w h : ℕ) (s : List ℕ) (old : List Float) where
 
   module _ (y from : ℕ) (new : List Float) (f : FilledRows o w h s old y from new) where
     -- the next row is there
-    pub rows-room : 0 < y → UpwardRoom w h y f.rows
-    rows-room some = upward-room w h (file_cells o (w * h) s) y f.rows f.passed some (cells_count o (w * h) s)
+    pub rows_room : 0 < y → UpwardRoom w h y f.rows
+    rows_room some = upward-room w h (file_cells o (w * h) s) y f.rows f.passed some (cells_count o (w * h) s)
 
     -- the part that is lent for it has its length
     part-size : 0 < y → length old ≡ w * h → length (take (from + w - from) (drop from new)) ≡ w
-    part-size some wide = part-long from w new (omega (arith, (rows-room some).passed, f.place, f.long))
+    part-size some wide = part-long from w new (omega (arith, (rows_room some).passed, f.place, f.long))
 
     -- and a part of the bytes with a row has four for a cell
-    pub rows-lent : 0 < y → length old ≡ w * h → (at : ℕ) → at + 4 * w ≤ length s
+    pub rows_lent : 0 < y → length old ≡ w * h → (at : ℕ) → at + 4 * w ≤ length s
         → length (take (at + 4 * w - at) (drop at s)) ≡ 4 * length (take (from + w - from) (drop from new))
-    rows-lent some wide at inside = rw (part-size some wide) (part-long at (4 * w) s inside)
+    rows_lent some wide at inside = rw (part-size some wide) (part-long at (4 * w) s inside)
 
     -- one row more
     pub rows_more : (part : List Float) → 0 < y → length old ≡ w * h → length s ≡ 4 * (w * h)
         → part ≡ file_cells o (length (take (from + w - from) (drop from new))) (take (4 * ((y - 1) * w) + 4 * w - 4 * ((y - 1) * w)) (drop (4 * ((y - 1) * w)) s))
         → FilledRows o w h s old (y - 1) (from + w) (put_mid from (from + w - from) new part)
     rows_more part some wide deep made =
-        let room = rows-room some in
+        let room = rows_room some in
         let all = file_cells o (w * h) s in
         let row = row_of w all (y - 1) in
         let is : part ≡ row = made ∙ rw (part-size some wide, add-sub_cancel_left) (cells-row o w (w * h) (y - 1) s room.next deep) in

@@ -1,229 +1,61 @@
--- What was found at a place, step by step, makes what the definitions take from the bytes there. Assumes nothing.
-use Prim.Native.Nat.{ℕ, ◌+◌, ◌-◌, ◌*◌, ◌≤◌, ◌<◌}
-use mathlib.Core.Path.{◌≡◌, refl, sym, ap, ◌∙◌, subst}
-use mathlib.Core.Bool.{Bool, true, false, cond}
-use mathlib.Core.List.{List, append-nil}
+-- What was read in turn makes what the definitions take from the bytes. Assumes nothing.
+use Prim.Native.Nat.{ℕ, ◌*◌, ◌≤◌, ◌<◌, min}
+use mathlib.Core.Path.{◌≡◌, refl, sym, ap, ◌∙◌}
+use mathlib.Core.Bool.{Bool, true, false}
+use mathlib.Core.List.{List}
 use mathlib.Core.Logic.{⊎_elim}
 use native.Mathlib.Omega.{arith}
-use borrow.Author.Tests.{lt-ltb, le-ltb, le-leb, lt-leb, eq-eqb, ne_eqb}
-use borrow.Author.Rules.{part_to_end}
-use lib.ListN.{length, get_or, take, drop, drop_of_length-le}
-use lib.Seq.{drop-length}
-use lib.Dec.{ltb, eqb}
+use borrow.Author.Tests.{le-leb, lt-leb, eq-eqb, ne_eqb}
+use lib.ListN.{length}
+use lib.Dec.{eqb}
+use lib.Ieee.{Float}
+use Rattle.std.specs.Prelude.{Result, Ok, Err}
 use Rattle.options.specs.Limits.{side_most, is_side}
 use Rattle.options.proofs.Sides.{side-fits}
-use Rattle.lists.specs.Stores.{Wrote}
-use Rattle.refusals.specs.Steps.{Or, is, refused}
-use Rattle.lists.proofs.Stores.{wrote-front}
+use Rattle.lists.specs.Rows.{bottom_up}
 use Rattle.lists.proofs.Tests.{lt-or-le}
+use Rattle.refusals.specs.declared.Refusal.{Refusal}
+use Rattle.refusals.specs.declared.Refusal.TheVariants as refusal
+use Rattle.refusals.specs.Numbers.{number_of}
+use Rattle.refusals.specs.Steps.{Or, is, refused}
+use Rattle.refusals.proofs.Stepwise.{same-result}
 use Rattle.netpbm.specs.declared.order.Order.{Order}
-use Rattle.netpbm.specs.declared.order.Order.TheVariants.{Big}
 use Rattle.netpbm.specs.declared.raster.Size.{Size}
-use Rattle.netpbm.specs.declared.raster.Size.TheVariants as size
-use Rattle.netpbm.specs.declared.pgm.Picture.TheVariants as picture
-use Rattle.netpbm.specs.declared.pfm.Map.TheVariants as map
-use Rattle.netpbm.specs.Header.{starts_with, take_word, is_white, take_white, take_number, take_spaced, take_ended}
 use Rattle.netpbm.specs.Raster.{Raster, sized}
-use Rattle.netpbm.specs.Pgm.{pgm_magic, take_pgm_head, read_pgm}
-use Rattle.netpbm.specs.Pfm.{Scale, pfm_magic, space, line_end, minus, plus, take_sign, take_fraction, take_scale, take_pfm_head, read_pfm}
+use Rattle.netpbm.specs.Pgm.{PgmHead, take_pgm_head, read_pgm}
+use Rattle.netpbm.specs.Pfm.{PfmHead, take_pfm_head, file_cells, read_pfm}
 use Rattle.netpbm.specs.Outcome.{ReadOutcome}
-use Rattle.netpbm.specs.Inner.{number_most, held, Place, NumberAt, ScaleAt, PgmAt, PfmAt, DataAt, Fitting, SizedAs, PictureAs, MapAs}
-use Rattle.netpbm.proofs.Headers.{byte_at, past_word, held-min}
-
--- ---- places
-
--- a place up to the end has the bytes from it on
-pub at_place : (s : List ℕ) (at : ℕ) → at ≤ length s → Place s (drop at s) at
-at_place s at l = record { within = l; here = refl }
-
--- the character at a place
-module _ (s : List ℕ) (at : ℕ) where
-  -- a white-space character
-  pub white-here : at < length s → is_white (get_or s at 0) ≡ true → take_white (drop at s) ≡ is (drop (at + 1) s)
-  unfolding take_white
-  white-here l e = rw (byte_at s at l, e)
-
-  -- another one
-  pub white-other : at < length s → is_white (get_or s at 0) ≡ false → take_white (drop at s) ≡ refused 41
-  unfolding take_white
-  white-other l e = rw (byte_at s at l, e)
-
-  -- none
-  pub white-none : length s ≤ at → take_white (drop at s) ≡ refused 41
-  unfolding take_white
-  white-none l = rw drop_of_length-le
-
--- ---- a PGM header, by what was found in turn
-module _ (s : List ℕ) where
-  -- it does not begin with the magic number
-  pub pgm-no-magic : starts_with pgm_magic s ≡ false → take_pgm_head s ≡ refused 41
-  unfolding take_pgm_head take_word
-  pgm-no-magic m = rw m
-
-  module _ (m : starts_with pgm_magic s ≡ true) where
-    -- no width stands after that
-    pub pgm-no-width : take_spaced (drop 2 s) ≡ refused 41 → take_pgm_head s ≡ refused 41
-    unfolding take_pgm_head take_word
-    pgm-no-width e = rw (m, e)
-
-    module _ {w a : ℕ} (f : NumberAt s (take_spaced (drop 2 s)) w a) where
-      -- no height stands past the width
-      pub pgm-no-height : take_spaced (drop a s) ≡ refused 41 → take_pgm_head s ≡ refused 41
-      unfolding take_pgm_head take_word
-      pgm-no-height e = rw (m, f.taken_is, ← f.past.here, e)
-
-      module _ {h b : ℕ} (g : NumberAt s (take_spaced (drop a s)) h b) where
-        -- no maximum stands past the height
-        pub pgm-no-maximum : take_spaced (drop b s) ≡ refused 41 → take_pgm_head s ≡ refused 41
-        unfolding take_pgm_head take_word
-        pgm-no-maximum e = rw (m, f.taken_is, ← f.past.here, g.taken_is, ← g.past.here, e)
-
-        module _ {x c : ℕ} (k : NumberAt s (take_spaced (drop b s)) x c) where
-          -- no white-space character stands past the maximum
-          pub pgm-no-white : take_white (drop c s) ≡ refused 41 → take_pgm_head s ≡ refused 41
-          unfolding take_pgm_head take_word
-          pgm-no-white e = rw (m, f.taken_is, ← f.past.here, g.taken_is, ← g.past.here, k.taken_is, ← k.past.here, e)
-
-          -- all of it stands there
-          pub pgm-head : (c + 1 ≤ length s) × (take_white (drop c s) ≡ is (drop (c + 1) s)) → PgmAt s (take_pgm_head s) w h x (c + 1)
-          unfolding take_pgm_head take_word
-          pgm-head e = record {
-            value = record { width = f.value.number; height = g.value.number; maximum = k.value.number; rest = drop (c + 1) s };
-            taken_is = rw (m, f.taken_is, ← f.past.here, g.taken_is, ← g.past.here, k.taken_is, ← k.past.here, e.1);
-            wide = f.holds;
-            high = g.holds;
-            most = k.holds;
-            past = record { within = e.0; here = refl };
-          }
-
--- ---- the scale's line
-
--- without a minus the order is big-endian
-pub sign-big : (s : List ℕ) → starts_with minus s ≡ false → Big ≡ (take_sign s).order
-unfolding take_sign
-sign-big s e = rw e (go (starts_with plus s))
-  where
-    go : (t : Bool) → Big ≡ (cond {A = Scale} t (record { order = Big; rest = drop 1 s }) (record { order = Big; rest = s })).order
-    go true = refl
-    go false = refl
-
--- the line, by what was found in turn past the sign
-module _ (s rest : List ℕ) {past : ℕ} (p : Place s (take_sign rest).rest past) where
-  -- no digits stand there
-  pub scale-no-whole : take_number (drop past s) ≡ refused 41 → take_scale rest ≡ refused 41
-  unfolding take_scale
-  scale-no-whole e = rw (← p.here, e)
-
-  module _ {n a : ℕ} (f : NumberAt s (take_number (drop past s)) n a) where
-    -- no digits stand past the point
-    pub scale-no-fraction : take_fraction (drop a s) ≡ refused 41 → take_scale rest ≡ refused 41
-    unfolding take_scale
-    scale-no-fraction e = rw (← p.here, f.taken_is, ← f.past.here, e)
-
-    module _ {m b : ℕ} (g : NumberAt s (take_fraction (drop a s)) m b) where
-      -- the digits are all zero
-      pub scale-zero : n + m ≡ 0 → take_scale rest ≡ refused 41
-      unfolding take_scale
-      scale-zero z = rw (← p.here, f.taken_is, ← f.past.here, g.taken_is, le-ltb 0 (f.value.number + g.value.number) (omega (arith, f.holds, g.holds, held-min f.value.number, held-min g.value.number)))
-
-      module _ (z : n + m ≡ 0 → ⊥) where
-        -- as they are held, so they are
-        some : ltb 0 (f.value.number + g.value.number) ≡ true
-        some = lt-ltb 0 (f.value.number + g.value.number) (omega (arith, f.holds, g.holds, held-min f.value.number, held-min g.value.number))
-
-        -- no LF stands past them
-        pub scale-no-end : starts_with line_end (drop b s) ≡ false → take_scale rest ≡ refused 41
-        unfolding take_scale take_word
-        scale-no-end e = rw (← p.here, f.taken_is, ← f.past.here, g.taken_is, some, ← g.past.here, e)
-
-        -- all of it stands there
-        pub scale-found : starts_with line_end (drop b s) ≡ true → {order : Order} → order ≡ (take_sign rest).order → ScaleAt s (take_scale rest) order (b + 1)
-        unfolding take_scale take_word
-        scale-found e o = record {
-          rest = drop 1 (drop b s);
-          taken_is = rw (o, ← p.here, f.taken_is, ← f.past.here, g.taken_is, some, ← g.past.here, e);
-          past = past_word line_end (at_place s b g.past.within) e;
-        }
-
--- ---- a PFM header, by what was found in turn
-module _ (s : List ℕ) where
-  -- it does not begin with its first line
-  pub pfm-no-magic : starts_with pfm_magic s ≡ false → take_pfm_head s ≡ refused 41
-  unfolding take_pfm_head take_word
-  pfm-no-magic m = rw m
-
-  module _ (m : starts_with pfm_magic s ≡ true) where
-    -- no width stands after that
-    pub pfm-no-width : take_ended space (drop 3 s) ≡ refused 41 → take_pfm_head s ≡ refused 41
-    unfolding take_pfm_head take_word
-    pfm-no-width e = rw (m, e)
-
-    module _ {w a : ℕ} (f : NumberAt s (take_ended space (drop 3 s)) w a) where
-      -- no height stands past the width
-      pub pfm-no-height : take_ended line_end (drop a s) ≡ refused 41 → take_pfm_head s ≡ refused 41
-      unfolding take_pfm_head take_word
-      pfm-no-height e = rw (m, f.taken_is, ← f.past.here, e)
-
-      module _ {h b : ℕ} (g : NumberAt s (take_ended line_end (drop a s)) h b) where
-        -- no scale stands past the height
-        pub pfm-no-scale : take_scale (drop b s) ≡ refused 41 → take_pfm_head s ≡ refused 41
-        unfolding take_pfm_head take_word
-        pfm-no-scale e = rw (m, f.taken_is, ← f.past.here, g.taken_is, ← g.past.here, e)
-
-        -- all of it stands there
-        pub pfm-head : {o : Order} {c : ℕ} → ScaleAt s (take_scale (drop b s)) o c → PfmAt s (take_pfm_head s) o w h c
-        unfolding take_pfm_head take_word
-        pfm-head {o} k = record {
-          value = record { order = o; width = f.value.number; height = g.value.number; rest = k.rest };
-          taken_is = rw (m, f.taken_is, ← f.past.here, g.taken_is, ← g.past.here, k.taken_is);
-          ordered = refl;
-          wide = f.holds;
-          high = g.holds;
-          past = k.past;
-        }
+use Rattle.netpbm.specs.Inner.{number_most, held, held_pgm, held_pfm, Fits, SizedAs}
 
 -- ---- a raster's size
 
 -- a number is a side where what is held of it is one
 side-held : (n : ℕ) → is_side n ≡ is_side (held n)
 side-held n =
-    ⊎_elim (λ (h : n < number_most). rw (lt-ltb n number_most h))
-    (λ (h : number_most ≤ n). rw (le-ltb n number_most h, le-leb 1 n (omega arith), lt-leb n side_most (omega arith))) (lt-or-le n number_most)
+    ⊎_elim (λ (h : n < number_most). let e : min n number_most ≡ n = omega arith in rw e)
+    (λ (h : number_most ≤ n). let e : min n number_most ≡ number_most = omega arith in rw (e, le-leb 1 n (omega arith), lt-leb n side_most (omega arith)))
+    (lt-or-le n number_most)
 
 -- and then it is held as it is
 side-is : (x n : ℕ) → x ≡ held n → is_side x ≡ true → n ≡ x
-side-is x n p e = omega (arith, held-min n, (side-fits x e).most)
+side-is x n p e = omega (arith, (side-fits x e).most)
 
 -- the size, by its tests
-module _ (each x y : ℕ) (bytes : List ℕ) where
-  -- the width is no side
-  pub judged-wide : is_side x ≡ false → SizedAs each x y bytes (size.Refused 43)
+module _ (each x y : ℕ) (bytes : List ℕ) (a : is_side x ≡ true) (b : is_side y ≡ true) where
+  -- bytes are cut or left over
+  pub judged_long : (length bytes ≡ each * (x * y) → ⊥) → SizedAs each x y bytes (Err refusal.FileData)
   unfolding sized
-  judged-wide e = rw e
+  judged_long far = rw (a, b, ne_eqb (length bytes) (each * (x * y)) far)
 
-  module _ (a : is_side x ≡ true) where
-    -- the height is no side
-    pub judged-high : is_side y ≡ false → SizedAs each x y bytes (size.Refused 43)
-    unfolding sized
-    judged-high e = rw (a, e)
-
-    module _ (b : is_side y ≡ true) where
-      -- bytes are cut or left over
-      pub judged-long : (length bytes ≡ each * (x * y) → ⊥) → SizedAs each x y bytes (size.Refused 44)
-      unfolding sized
-      judged-long far = rw (a, b, ne_eqb (length bytes) (each * (x * y)) far)
-
-      -- the size goes with the bytes
-      pub judged-is : length bytes ≡ each * (x * y) → SizedAs each x y bytes (size.Is x y)
-      unfolding sized
-      judged-is long = record {
-        accepted = rw (a, b, eq-eqb (length bytes) (each * (x * y)) long);
-        wide = refl;
-        high = refl;
-        narrow = (side-fits x a).most;
-        low = (side-fits y b).most;
-        long = long;
-      }
+  -- the size goes with the bytes
+  pub judged_is : length bytes ≡ each * (x * y) → SizedAs each x y bytes (Ok (record { width = x; height = y }))
+  unfolding sized
+  judged_is long = (
+    rw (a, b, eq-eqb (length bytes) (each * (x * y)) long),
+    refl,
+    refl,
+    record { narrow = (side-fits x a).most; low = (side-fits y b).most; long = long },
+  )
 
 -- a width and a height are judged as what is held of them
 held-sized : (each w h : ℕ) (bytes : List ℕ) → sized each (held w) (held h) bytes ≡ sized each w h bytes
@@ -236,93 +68,142 @@ held-sized each w h bytes = go (is_side (held w)) refl (is_side (held h)) refl
     go false e t f = rw (side-held w, e)
 
 -- what is judged of the numbers that are held is so of those that were read
-held-as : (each w h : ℕ) (bytes : List ℕ) (r : Size) {x y : ℕ} → x ≡ held w → y ≡ held h → SizedAs each x y bytes r → SizedAs each w h bytes r
-held-as each w h bytes (size.Refused n) p q j = sym (held-sized each w h bytes) ∙ rw (p, q) at j
-held-as each w h bytes (size.Is a b) {x} {y} p q j =
-    let e : w ≡ x = omega (arith, held-min w, j.narrow) in
-    let f : h ≡ y = omega (arith, held-min h, j.low) in
+held_as : (each w h : ℕ) (bytes : List ℕ) (r : Result Size Refusal) (x y : ℕ) → x ≡ held w → y ≡ held h → SizedAs each x y bytes r → SizedAs each w h bytes r
+held_as each w h bytes (Err d) x y p q j = sym (held-sized each w h bytes) ∙ rw (p, q) at j
+held_as each w h bytes (Ok z) x y p q j =
+    let e : w ≡ x = omega (arith, j.3.narrow) in
+    let f : h ≡ y = omega (arith, j.3.low) in
     rw (e, f) j
 
--- the size of a part that begins at a place and goes to the end
-judged : (each w h at : ℕ) (s : List ℕ) {r r' : Size} {x y : ℕ} → x ≡ held w → y ≡ held h
-    → SizedAs each x y (take (length s - at) (drop at s)) r → r ≡ r' → SizedAs each w h (drop at s) r'
-judged each w h at s {r} {r'} {x} {y} p q j e = held-as each w h (drop at s) r' p q (rw (part_to_end s at) at (subst (SizedAs each x y _) e j))
+-- ---- a picture, by what was read and judged in turn
 
--- the place of data that go with a size
-fits-at : {s : List ℕ} {each w h at x y : ℕ} → at ≤ length s → Fitting each w h (drop at s) x y → DataAt s each x y at
-fits-at l f = rw (f.wide, f.high) (record { within = l; narrow = f.narrow; low = f.low; long = f.long })
+-- a header that was read is what is held of one that was taken
+record PgmHeld (o : Or PgmHead) (w h m : ℕ) (rest : List ℕ) : Type 0 where
+  pub head : PgmHead
+  pub taken : o ≡ is head
+  pub wide : w ≡ held head.width
+  pub high : h ≡ held head.height
+  pub most : m ≡ held head.maximum
+  pub past : rest ≡ head.rest
 
--- ---- a picture, by its tests
+pgm_is : (o : Or PgmHead) (w h m : ℕ) (rest : List ℕ) → is (record { width = w; height = h; maximum = m; rest = rest }) ≡ held_pgm o → PgmHeld o w h m rest
+pgm_is (is d) w h m rest e =
+    let same = same-result e in
+    record {
+      head = d;
+      taken = refl;
+      wide = ap (λ (u : PgmHead). u.width) same;
+      high = ap (λ (u : PgmHead). u.height) same;
+      most = ap (λ (u : PgmHead). u.maximum) same;
+      past = ap (λ (u : PgmHead). u.rest) same;
+    }
+pgm_is (refused n) w h m rest e = cc
+
+pgm_refused : (o : Or PgmHead) (n : ℕ) → refused n ≡ held_pgm o → o ≡ refused n
+pgm_refused (is d) n e = cc
+pgm_refused (refused k) n e = cc
+
 module _ (s : List ℕ) where
   -- its header is refused
-  pub picture-none : take_pgm_head s ≡ refused 41 → read_pgm s ≡ refused 41
+  pub picture_none : (n : ℕ) → refused n ≡ held_pgm (take_pgm_head s) → read_pgm s ≡ refused n
   unfolding read_pgm
-  picture-none e = rw e
+  picture_none n e = rw (pgm_refused (take_pgm_head s) n e)
 
-  module _ {w h m at : ℕ} (f : PgmAt s (take_pgm_head s) w h m at) where
+  module _ (w h m : ℕ) (rest : List ℕ) (e : is (record { width = w; height = h; maximum = m; rest = rest }) ≡ held_pgm (take_pgm_head s)) where
+    read_head : PgmHeld (take_pgm_head s) w h m rest
+    read_head = pgm_is (take_pgm_head s) w h m rest e
+
     -- its maximum is another
-    pub picture-maximum : (m ≡ 255 → ⊥) → read_pgm s ≡ refused 42
+    pub picture_maximum : (m ≡ 255 → ⊥) → read_pgm s ≡ refused 42
     unfolding read_pgm
-    picture-maximum far = rw (f.taken_is, ne_eqb f.value.maximum 255 (λ e. far (f.most ∙ ap held e)))
+    picture_maximum far = let f = read_head in rw (f.taken, ne_eqb f.head.maximum 255 (λ z. far (f.most ∙ ap held z)))
 
-    module _ (e : m ≡ 255) where
+    module _ (top : m ≡ 255) where
       -- as the maximum is held, so it is
-      top : eqb f.value.maximum 255 ≡ true
-      top = eq-eqb f.value.maximum 255 (omega (arith, f.most, held-min f.value.maximum))
+      full : eqb read_head.head.maximum 255 ≡ true
+      full = let f = read_head in eq-eqb f.head.maximum 255 (omega (arith, f.most))
 
       -- its size is refused
-      pub picture-refused : {n : ℕ} {r : Size} → SizedAs 1 w h (take (length s - at) (drop at s)) r → r ≡ size.Refused n → read_pgm s ≡ refused n
+      pub picture_refused : (d : Refusal) → SizedAs 1 w h rest (Err d) → read_pgm s ≡ refused (number_of d)
       unfolding read_pgm
-      picture-refused j q = rw (f.taken_is, top, ← f.past.here, judged 1 f.value.width f.value.height at s f.wide f.high j q)
+      picture_refused d j =
+          let f = read_head in
+          rw (f.taken, full, ← f.past, held_as 1 f.head.width f.head.height rest (Err d) w h f.wide f.high j)
 
       -- all of it was judged
-      pub picture-is : {x y : ℕ} {r : Size} → SizedAs 1 w h (take (length s - at) (drop at s)) r → r ≡ size.Is x y → PictureAs s (picture.Raster x y at)
+      pub picture_is : (z : Size) → SizedAs 1 w h rest (Ok z) → (read_pgm s ≡ is (record { width = z.width; height = z.height; cells = rest })) × Fits 1 z.width z.height rest
       unfolding read_pgm
-      picture-is j q =
-          let g = judged 1 f.value.width f.value.height at s f.wide f.high j q in
-          (rw (f.taken_is, top, ← f.past.here, g.accepted, g.wide, g.high), fits-at f.past.within g)
+      picture_is z j =
+          let f = read_head in
+          let g = held_as 1 f.head.width f.head.height rest (Ok z) w h f.wide f.high j in
+          (rw (f.taken, full, ← f.past, g.0, g.1, g.2), rw (g.1, g.2) g.3)
 
--- ---- a map, by its tests
+-- ---- a map, by what was read and judged in turn
+
+record PfmHeld (o : Or PfmHead) (order : Order) (w h : ℕ) (rest : List ℕ) : Type 0 where
+  pub head : PfmHead
+  pub taken : o ≡ is head
+  pub ordered : order ≡ head.order
+  pub wide : w ≡ held head.width
+  pub high : h ≡ held head.height
+  pub past : rest ≡ head.rest
+
+pfm_is : (o : Or PfmHead) (order : Order) (w h : ℕ) (rest : List ℕ) → is (record { order = order; width = w; height = h; rest = rest }) ≡ held_pfm o → PfmHeld o order w h rest
+pfm_is (is d) order w h rest e =
+    let same = same-result e in
+    record {
+      head = d;
+      taken = refl;
+      ordered = ap (λ (u : PfmHead). u.order) same;
+      wide = ap (λ (u : PfmHead). u.width) same;
+      high = ap (λ (u : PfmHead). u.height) same;
+      past = ap (λ (u : PfmHead). u.rest) same;
+    }
+pfm_is (refused n) order w h rest e = cc
+
+pfm_refused : (o : Or PfmHead) (n : ℕ) → refused n ≡ held_pfm o → o ≡ refused n
+pfm_refused (is d) n e = cc
+pfm_refused (refused k) n e = cc
+
+-- maps of the same bytes and the same order
+map_same : {o o' : Order} {w h : ℕ} (rest : List ℕ) → o ≡ o'
+    → ◌≡◌ {A = Or (Raster Float)} (is (record { width = w; height = h; cells = bottom_up w h (file_cells o (w * h) rest) })) (is (record { width = w; height = h; cells = bottom_up w h (file_cells o' (w * h) rest) }))
+map_same rest p = rw p
+
 module _ (s : List ℕ) where
   -- its header is refused
-  pub map-none : take_pfm_head s ≡ refused 41 → read_pfm s ≡ refused 41
+  pub map_none : (n : ℕ) → refused n ≡ held_pfm (take_pfm_head s) → read_pfm s ≡ refused n
   unfolding read_pfm
-  map-none e = rw e
+  map_none n e = rw (pfm_refused (take_pfm_head s) n e)
 
-  module _ {o : Order} {w h at : ℕ} (f : PfmAt s (take_pfm_head s) o w h at) where
+  module _ (o : Order) (w h : ℕ) (rest : List ℕ) (e : is (record { order = o; width = w; height = h; rest = rest }) ≡ held_pfm (take_pfm_head s)) where
     -- its size is refused
-    pub map-refused : {n : ℕ} {r : Size} → SizedAs 4 w h (take (length s - at) (drop at s)) r → r ≡ size.Refused n → read_pfm s ≡ refused n
+    pub map_refused : (d : Refusal) → SizedAs 4 w h rest (Err d) → read_pfm s ≡ refused (number_of d)
     unfolding read_pfm
-    map-refused j q = rw (f.taken_is, ← f.past.here, judged 4 f.value.width f.value.height at s f.wide f.high j q)
+    map_refused d j =
+        let f = pfm_is (take_pfm_head s) o w h rest e in
+        rw (f.taken, ← f.past, held_as 4 f.head.width f.head.height rest (Err d) w h f.wide f.high j)
 
     -- all of it was judged
-    pub map_is : {x y : ℕ} {r : Size} → SizedAs 4 w h (take (length s - at) (drop at s)) r → r ≡ size.Is x y → MapAs s (map.Raster o x y at)
+    pub map_is : (z : Size) → SizedAs 4 w h rest (Ok z)
+        → (read_pfm s ≡ is (record { width = z.width; height = z.height; cells = bottom_up z.width z.height (file_cells o (z.width * z.height) rest) })) × Fits 4 z.width z.height rest
     unfolding read_pfm
-    map_is j q =
-        let g = judged 4 f.value.width f.value.height at s f.wide f.high j q in
-        (rw (f.taken_is, ← f.past.here, g.accepted, g.wide, g.high, f.ordered), fits-at f.past.within g)
+    map_is z j =
+        let f = pfm_is (take_pfm_head s) o w h rest e in
+        let g = held_as 4 f.head.width f.head.height rest (Ok z) w h f.wide f.high j in
+        (rw (f.taken, ← f.past, g.0, g.1, g.2) (map_same rest (sym f.ordered)), rw (g.1, g.2) g.3)
 
 -- ---- what the calls that read do, by their tests
 module _ {A : Type 0} {raster : Or (Raster A)} (out : List A) where
   -- the bytes are refused
-  pub read-refused : {n : ℕ} → raster ≡ refused n → ReadOutcome (size.Refused n) raster out out
-  read-refused e = rw e (record { answers = refl; outs = refl })
+  pub read_refused : (d : Refusal) → raster ≡ refused (number_of d) → ReadOutcome (Err d) raster out out
+  read_refused d e = rw e (record { answers = refl; outs = refl })
 
-  module _ {w h : ℕ} {cells : List A} (e : raster ≡ is (record { width = w; height = h; cells = cells })) where
+  module _ (z : Size) {cells : List A} (e : raster ≡ is (record { width = z.width; height = z.height; cells = cells })) where
     -- the output has another length
-    pub read-unfit : (length out ≡ w * h → ⊥) → ReadOutcome (size.Refused 45) raster out out
-    read-unfit far = let t = ne_eqb (length out) (w * h) far in rw e (record { answers = rw t; outs = rw t })
+    pub read_unfit : (length out ≡ z.width * z.height → ⊥) → ReadOutcome (Err refusal.FileOutput) raster out out
+    read_unfit far = let t = ne_eqb (length out) (z.width * z.height) far in rw e (record { answers = rw t; outs = rw t })
 
     -- the cells were written
-    pub read_done : length out ≡ w * h → {out' : List A} → out' ≡ cells → ReadOutcome (size.Is w h) raster out out'
-    read_done fit q = let t = eq-eqb (length out) (w * h) fit in rw (e, q) (record { answers = rw t; outs = rw t })
-
--- the data fill a part that begins at their place and goes to the end
-pub data-long : {s : List ℕ} {each w h at : ℕ} → DataAt s each w h at → length (take (length s - at) (drop at s)) ≡ each * (w * h)
-data-long {s} {each} {w} {h} {at} d = rw (part_to_end s at) d.long
-
--- that part of one byte for a cell, written over all of an output
-pub levels-read : {s out out' : List ℕ} {w h at n : ℕ} → DataAt s 1 w h at → length out ≡ w * h → Wrote out 0 (take (length s - at) (drop at s)) out' n → out' ≡ drop at s
-levels-read {s} {out} {out'} {w} {h} {at} d fit f =
-    let same : length (take (length s - at) (drop at s)) ≡ length out = omega (arith, data-long d) in
-    wrote-front (omega arith) f ∙ rw (same, drop-length, append-nil, part_to_end s at)
+    pub read_done : length out ≡ z.width * z.height → {out' : List A} → out' ≡ cells → ReadOutcome (Ok z) raster out out'
+    read_done fit q = let t = eq-eqb (length out) (z.width * z.height) fit in rw (e, q) (record { answers = rw t; outs = rw t })

@@ -14,9 +14,9 @@ use Rattle.options.specs.Limits.{is_side}
 use Rattle.maps.specs.Map.{size_rows}
 use Rattle.refusals.specs.Answered.{first_of, Numbered, ByPlace}
 use Rattle.refusals.specs.Steps.{Or, is, refused, and_then, given}
-use Rattle.refusals.specs.Given.{number_back, written_given}
+use Rattle.refusals.specs.Given.{number_back}
 use Rattle.refusals.specs.Writes.{room_for, write_rows, byte_count}
-use Rattle.refusals.proofs.Outcomes.{number-back}
+use Rattle.refusals.proofs.Outcomes.{answer-number}
 use Rattle.refusals.proofs.Stepwise.{not-refused, same-refusal}
 use Rattle.refusals.proofs.Writes.{length-by-place, write-by-place}
 use Rattle.netpbm.specs.Header.{starts_with, take_word, is_white, take_white, after_blanks, take_blanks, digits_of, take_number, take_spaced}
@@ -157,12 +157,12 @@ module _ (w h : ℕ) (cells : List Float) where
 
   pfm-number : number_back (pfm_of w h cells) ≡ first_of (size_rows w h (length cells))
   unfolding pfm_of
-  pfm-number = number-back (λ o. o) refused (is (file_bytes w h cells)) (λ k. refl) refl (first_of (size_rows w h (length cells)))
+  pfm-number = answer-number (file_bytes w h cells) (first_of (size_rows w h (length cells)))
 
   -- THEOREM: its length is answered by the place of its rows
-  pub pfm-length-by-place : ByPlace (size_rows w h (length cells)) (number_back (written_given (byte_count (pfm_of w h cells))))
+  pub pfm-length-by-place : ByPlace (size_rows w h (length cells)) (number_back (byte_count (pfm_of w h cells)))
   pfm-length-by-place = length-by-place numbered (pfm_of w h cells) pfm-number
 
   -- THEOREM: and so is what is written into an output of m bytes, whose length comes last
-  pub write-pfm-by-place : (m : ℕ) → ByPlace (write_rows (size_rows w h (length cells)) 45 m (pfm_of w h cells)) (number_back (written_given (byte_count (room_for 45 m (pfm_of w h cells)))))
+  pub write-pfm-by-place : (m : ℕ) → ByPlace (write_rows (size_rows w h (length cells)) 45 m (pfm_of w h cells)) (number_back (byte_count (room_for 45 m (pfm_of w h cells))))
   write-pfm-by-place m = write-by-place (size_rows w h (length cells)) numbered 45 m (lit< tt) (pfm_of w h cells) pfm-number

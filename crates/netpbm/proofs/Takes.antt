@@ -14,7 +14,7 @@ use Rattle.options.specs.Limits.{side_most, is_side}
 use Rattle.texts.specs.Digits.{is_digit, all_digits, Numeral}
 use Rattle.netpbm.specs.Header.{starts_with, take_word, digits_of, take_number, take_ended}
 use Rattle.netpbm.specs.Raster.{sized}
-use Rattle.netpbm.proofs.Headers.{digits-all, digits-front}
+use Rattle.netpbm.proofs.Headers.{digits_all, digits-front}
 
 -- a word begins what begins with it
 starts : (word s : List ℕ) → starts_with word (word ++ s) ≡ true
@@ -88,7 +88,7 @@ unfolding take_number
 number-only s t e =
     let g = given_is (leb 1 (length (digits_of s))) 41 _ t e in
     subst (λ (t : Taken). (word : List ℕ) × (s ≡ word ++ t.rest) × Numeral word t.number) g.1
-    (digits_of s, rw digits-front at (sym (take-append-drop (length (digits_of s)) s)), record { digit = digits-all s; some = leb-true 1 _ g.0; value = refl })
+    (digits_of s, rw digits-front at (sym (take-append-drop (length (digits_of s)) s)), record { digit = digits_all s; some = leb-true 1 _ g.0; value = refl })
 
 -- a number that was taken with the word that ends it
 pub ended-only : (stop s : List ℕ) (t : Taken) → take_ended stop s ≡ is t → (word : List ℕ) × (s ≡ word ++ (stop ++ t.rest)) × Numeral word t.number

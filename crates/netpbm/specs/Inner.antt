@@ -1,23 +1,15 @@
--- The enums that the functions inside answer with, beside the definitions. Definitions only.
-use Rattle.std.specs.Prelude.{ℕ, ◌*◌, ◌≤◌, ◌≡◌, cond, List, length, drop, ltb}
+-- What the functions inside answer, beside the steps of the definitions. Definitions only.
+use Rattle.std.specs.Prelude.{ℕ, ◌*◌, ◌≤◌, ◌≡◌, min, List, length, Result, Ok, Err}
+use Rattle.std.specs.Borrow.{Bor}
+use Rattle.refusals.specs.declared.Refusal.{Refusal}
+use Rattle.refusals.specs.Numbers.{number_of}
 use Rattle.options.specs.Limits.{side_most}
 use Rattle.lists.specs.Rows.{bottom_up}
 use Rattle.refusals.specs.Steps.{Or, is, refused, Taken}
 use Rattle.netpbm.specs.declared.order.Order.{Order}
-use Rattle.netpbm.specs.declared.header.Found.{Found}
-use Rattle.netpbm.specs.declared.header.Found.TheVariants as found
 use Rattle.netpbm.specs.declared.raster.Size.{Size}
-use Rattle.netpbm.specs.declared.raster.Size.TheVariants as size
-use Rattle.netpbm.specs.declared.pgm.FoundPgm.{FoundPgm}
-use Rattle.netpbm.specs.declared.pgm.FoundPgm.TheVariants as pgm
-use Rattle.netpbm.specs.declared.pgm.Picture.{Picture}
-use Rattle.netpbm.specs.declared.pgm.Picture.TheVariants as picture
-use Rattle.netpbm.specs.declared.scale.FoundScale.{FoundScale}
-use Rattle.netpbm.specs.declared.scale.FoundScale.TheVariants as scale
-use Rattle.netpbm.specs.declared.pfm.FoundPfm.{FoundPfm}
-use Rattle.netpbm.specs.declared.pfm.FoundPfm.TheVariants as pfm
-use Rattle.netpbm.specs.declared.pfm.Map.{Map}
-use Rattle.netpbm.specs.declared.pfm.Map.TheVariants as map
+use Rattle.netpbm.specs.declared.pgm.PgmNumbers.{PgmNumbers}
+use Rattle.netpbm.specs.declared.pfm.PfmNumbers.{PfmNumbers}
 use Rattle.netpbm.specs.Raster.{sized}
 use Rattle.netpbm.specs.Pgm.{PgmHead, read_pgm}
 use Rattle.netpbm.specs.Pfm.{Scale, PfmHead, file_cells, read_pfm}
@@ -28,84 +20,69 @@ number_most = 65536
 
 -- a number as the code holds it
 abbrev pub held : ℕ → ℕ
-held n = cond (ltb n number_most) n number_most
+held n = min n number_most
 
--- a place of s from which on the bytes are `rest`
-pub record Place (s rest : List ℕ) (at : ℕ) : Type 0 where
-  pub within : at ≤ length s
-  pub here : drop at s ≡ rest
+-- what a function read at the front of some bytes, and the bytes after it: of bytes that have to stand there, those after them alone
+abbrev pub rest_read : Result (Bor (List ℕ)) Refusal → Or (List ℕ)
+rest_read (Ok r) = is r.now
+rest_read (Err e) = refused (number_of e)
 
--- what was taken at a place of s, with what the code holds of it and the place past it
-pub record NumberAt (s : List ℕ) (taken : Or Taken) (n next : ℕ) : Type 0 where
-  pub value : Taken
-  pub taken_is : taken ≡ is value
-  pub holds : n ≡ held value.number
-  pub past : Place s value.rest next
+-- a number
+abbrev pub number_read : Result (ℕ × Bor (List ℕ)) Refusal → Or Taken
+number_read (Ok p) = is (record { number = p.0; rest = p.1.now })
+number_read (Err e) = refused (number_of e)
 
-abbrev pub FoundAs : List ℕ → Or Taken → Found → Type 0
-FoundAs s t (found.Number n next) = NumberAt s t n next
-FoundAs s t found.None = t ≡ refused 41
+-- what was taken, with its number as the code holds it
+abbrev pub held_number : Or Taken → Or Taken
+held_number (is t) = is (record { number = held t.number; rest = t.rest })
+held_number (refused n) = refused n
 
--- the same of the scale's line
-pub record ScaleAt (s : List ℕ) (taken : Or Scale) (order : Order) (next : ℕ) : Type 0 where
-  pub rest : List ℕ
-  pub taken_is : taken ≡ is (record { order = order; rest = rest })
-  pub past : Place s rest next
+-- a sign, which is always read
+abbrev pub sign_read : Order × Bor (List ℕ) → Scale
+sign_read p = record { order = p.0; rest = p.1.now }
 
-abbrev pub ScaleAs : List ℕ → Or Scale → FoundScale → Type 0
-ScaleAs s t (scale.Scale order next) = ScaleAt s t order next
-ScaleAs s t scale.None = t ≡ refused 41
+-- the scale's line
+abbrev pub scale_read : Result (Order × Bor (List ℕ)) Refusal → Or Scale
+scale_read (Ok p) = is (sign_read p)
+scale_read (Err e) = refused (number_of e)
 
--- the same of the headers
-pub record PgmAt (s : List ℕ) (taken : Or PgmHead) (w h m next : ℕ) : Type 0 where
-  pub value : PgmHead
-  pub taken_is : taken ≡ is value
-  pub wide : w ≡ held value.width
-  pub high : h ≡ held value.height
-  pub most : m ≡ held value.maximum
-  pub past : Place s value.rest next
+-- a PGM header
+abbrev pub pgm_read : Result (PgmNumbers × Bor (List ℕ)) Refusal → Or PgmHead
+pgm_read (Ok p) = is (record { width = p.0.width; height = p.0.height; maximum = p.0.maximum; rest = p.1.now })
+pgm_read (Err e) = refused (number_of e)
 
-abbrev pub PgmAs : List ℕ → Or PgmHead → FoundPgm → Type 0
-PgmAs s t (pgm.Head w h m next) = PgmAt s t w h m next
-PgmAs s t pgm.None = t ≡ refused 41
+-- one that was taken, with its numbers as the code holds them
+abbrev pub held_pgm : Or PgmHead → Or PgmHead
+held_pgm (is d) = is (record { width = held d.width; height = held d.height; maximum = held d.maximum; rest = d.rest })
+held_pgm (refused n) = refused n
 
-pub record PfmAt (s : List ℕ) (taken : Or PfmHead) (order : Order) (w h next : ℕ) : Type 0 where
-  pub value : PfmHead
-  pub taken_is : taken ≡ is value
-  pub ordered : order ≡ value.order
-  pub wide : w ≡ held value.width
-  pub high : h ≡ held value.height
-  pub past : Place s value.rest next
+-- a PFM header
+abbrev pub pfm_read : Result (PfmNumbers × Bor (List ℕ)) Refusal → Or PfmHead
+pfm_read (Ok p) = is (record { order = p.0.order; width = p.0.width; height = p.0.height; rest = p.1.now })
+pfm_read (Err e) = refused (number_of e)
 
-abbrev pub PfmAs : List ℕ → Or PfmHead → FoundPfm → Type 0
-PfmAs s t (pfm.Head order w h next) = PfmAt s t order w h next
-PfmAs s t pfm.None = t ≡ refused 41
+-- one that was taken, with its numbers as the code holds them
+abbrev pub held_pfm : Or PfmHead → Or PfmHead
+held_pfm (is d) = is (record { order = d.order; width = held d.width; height = held d.height; rest = d.rest })
+held_pfm (refused n) = refused n
 
--- the data of a raster of s begin at a place, `each` bytes for a cell
-pub record DataAt (s : List ℕ) (each w h at : ℕ) : Type 0 where
-  pub within : at ≤ length s
-  pub narrow : w ≤ side_most
-  pub low : h ≤ side_most
-  pub long : length (drop at s) ≡ each * (w * h)
-
--- a width and a height that go with the bytes of their raster
-pub record Fitting (each w h : ℕ) (bytes : List ℕ) (x y : ℕ) : Type 0 where
-  pub accepted : sized each w h bytes ≡ is bytes
-  pub wide : x ≡ w
-  pub high : y ≡ h
+-- a raster that fits its bytes, `each` for a cell
+pub record Fits (each w h : ℕ) (bytes : List ℕ) : Type 0 where
   pub narrow : w ≤ side_most
   pub low : h ≤ side_most
   pub long : length bytes ≡ each * (w * h)
 
-abbrev pub SizedAs : ℕ → ℕ → ℕ → List ℕ → Size → Type 0
-SizedAs each w h bytes (size.Is x y) = Fitting each w h bytes x y
-SizedAs each w h bytes (size.Refused n) = sized each w h bytes ≡ refused n
+-- a width and a height that go with the bytes of their raster
+abbrev pub SizedAs : ℕ → ℕ → ℕ → List ℕ → Result Size Refusal → Type 0
+SizedAs each w h bytes (Ok size) = (sized each w h bytes ≡ is bytes) × (size.width ≡ w) × (size.height ≡ h) × Fits each w h bytes
+SizedAs each w h bytes (Err e) = sized each w h bytes ≡ refused (number_of e)
 
--- a picture or a map all of which was judged: its size and the place of its data
-abbrev pub PictureAs : List ℕ → Picture → Type 0
-PictureAs s (picture.Raster w h at) = (read_pgm s ≡ is (record { width = w; height = h; cells = drop at s })) × DataAt s 1 w h at
-PictureAs s (picture.Refused n) = read_pgm s ≡ refused n
+-- a picture all of which was judged: its size and its levels
+abbrev pub PictureAs : List ℕ → Result (Size × Bor (List ℕ)) Refusal → Type 0
+PictureAs s (Ok p) = (read_pgm s ≡ is (record { width = p.0.width; height = p.0.height; cells = p.1.now })) × Fits 1 p.0.width p.0.height p.1.now
+PictureAs s (Err e) = read_pgm s ≡ refused (number_of e)
 
-abbrev pub MapAs : List ℕ → Map → Type 0
-MapAs s (map.Raster order w h at) = (read_pfm s ≡ is (record { width = w; height = h; cells = bottom_up w h (file_cells order (w * h) (drop at s)) })) × DataAt s 4 w h at
-MapAs s (map.Refused n) = read_pfm s ≡ refused n
+-- a map all of which was judged: the order of its bytes, its size and the bytes of its cells
+abbrev pub MapAs : List ℕ → Result (Order × Size × Bor (List ℕ)) Refusal → Type 0
+MapAs s (Ok p) = (read_pfm s ≡ is (record { width = p.1.width; height = p.1.height; cells = bottom_up p.1.width p.1.height (file_cells p.0 (p.1.width * p.1.height) p.2.now) })) × Fits 4 p.1.width p.1.height p.2.now
+MapAs s (Err e) = read_pfm s ≡ refused (number_of e)

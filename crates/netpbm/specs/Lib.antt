@@ -6,6 +6,5 @@ pub mod Pgm
 pub mod Pfm
 pub mod Grammar
 pub mod Outcome
-pub mod Given
 -- what serves the functions inside alone
 pub mod Inner

@@ -6,7 +6,7 @@ use Rattle.std.specs.Float.Ieee.Scale.{finite}
 use Rattle.lists.specs.Rows.{bottom_up}
 use Rattle.refusals.specs.Answered.{first_of}
 use Rattle.refusals.specs.Outcome.{answer_for}
-use Rattle.refusals.specs.Steps.{Or, is, refused, and_then, given, Taken}
+use Rattle.refusals.specs.Steps.{Or, is, and_then, given, Taken}
 use Rattle.texts.specs.Digits.{decimal_text}
 use Rattle.maps.specs.Map.{size_rows}
 use Rattle.netpbm.specs.declared.order.Order.{Order}
@@ -62,7 +62,7 @@ pfm_head w h = pfm_magic ++ decimal_text w ++ space ++ decimal_text h ++ line_en
 
 -- the file of a map, refused as its size is; the bottom row comes first
 unfoldable pub pfm_of : ℕ → ℕ → List Float → Or (List ℕ)
-pfm_of w h cells = answer_for (first_of (size_rows w h (length cells))) refused (is (pfm_head w h ++ cells_bytes Little (bottom_up w h cells)))
+pfm_of w h cells = answer_for (first_of (size_rows w h (length cells))) (pfm_head w h ++ cells_bytes Little (bottom_up w h cells))
 
 -- ---- reading
 

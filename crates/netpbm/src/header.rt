@@ -1,124 +1,94 @@
-// The parts of a header. A reader is given a place, and answers what it found there with the place past it.
-ghost use Rattle.std.specs.Prelude.{◌≡◌, true, ◌+◌, ◌-◌, ◌*◌, ◌≤◌, length, drop};
+// The parts of a header. A reader takes the bytes that are left, and answers what stood at their front with the bytes after it.
+ghost use Rattle.std.specs.Prelude.{◌≡◌, true, ◌-◌, ◌*◌, ◌+◌, ◌≤◌, ◌<◌, length, MatchOption};
 ghost use Rattle.texts.specs.Digits.{is_digit, all_digits, decimal_from};
-ghost use Rattle.netpbm.specs.Header.{starts_with, is_white, ends_line, after_blanks, after_comment, digits_of, take_number, take_spaced, take_ended};
-ghost use Rattle.netpbm.specs.Inner.{number_most, held, Place, FoundAs};
+ghost use Rattle.netpbm.specs.Header.{is_white, ends_line, after_blanks, after_comment, digits_of, take_word, take_white, take_number, take_spaced, take_ended};
+ghost use Rattle.netpbm.specs.Inner.{number_most, held, rest_read, number_read, held_number};
+
+use refusals::Refusal;
 
 // A number may have any count of digits; it is held as this one where it is above it.
 const NUMBER_MOST: u64 = 65536;
 
-// A number that was found and the place past it.
-#[derive(Drop)]
-pub enum Found {
-    Number(u64, usize),
-    None,
-}
-
-// Whether a word stands at a place.
-pub fn has_word(s: &[u8], at: usize, word: &[u8]) -> bool
-    requires { at ≤ length s.now }
-    ensures { result ≡ starts_with word.now (drop at s.now) }
+// A word at the front.
+#[tactic(auto, using(crate::proofs::Headers::word_tested), unfolding(crate::specs::Header::take_word))]
+pub fn read_word<'a>(s: &'a [u8], word: &[u8]) -> Result<&'a [u8], Refusal>
+    ensures { rest_read result ≡ take_word word.now s.now }
 {
-    let mut i: usize = 0;
-    while i < word.len() {
-        if s.len() <= at + i {
-            return false;
-        }
-        if s[at + i] != word[i] {
-            return false;
-        }
-        i += 1;
-    }
-    true
+    s.strip_prefix(word).ok_or(Refusal::FileHeader)
 }
 
 // Whether a byte is a white-space character: space, TAB, LF, VT, FF or CR.
 pub fn is_white(b: u8) -> bool
     ensures { result ≡ is_white b }
 {
-    if b == b' ' {
-        return true;
-    }
-    if b < 9 {
-        return false;
-    }
-    b <= 13
+    b == b' ' || (b'\t' <= b && b <= b'\r')
 }
 
 // Whether a byte ends a comment.
 fn ends_line(b: u8) -> bool
     ensures { result ≡ ends_line b }
 {
-    if b == 10 { true } else { b == 13 }
+    b == b'\n' || b == b'\r'
 }
 
-// The place past a comment's line end, from a place within the comment on, or the end of s.
-fn past_line(s: &[u8], at: usize) -> usize
-    requires { at ≤ length s.now }
-    ensures { (after_comment (drop at s.now) ≡ after_blanks (drop result s.now)) × (at ≤ result) × (result ≤ length s.now) }
+// A single white-space character at the front.
+#[tactic(auto, unfolding(crate::specs::Header::take_white))]
+pub fn read_white(s: &[u8]) -> Result<&[u8], Refusal>
+    ensures { rest_read result ≡ take_white s.now }
 {
-    let mut i = at;
-    while i < s.len() {
-        let b = s[i];
-        i += 1;
-        if ends_line(b) {
-            return i;
+    match s.split_first() {
+        Some((b, rest)) if is_white(*b) => Ok(rest),
+        _ => Err(Refusal::FileHeader),
+    }
+}
+
+// What follows a comment's line end, for bytes within the comment.
+#[tactic(auto, using(crate::proofs::Headers::past_end, crate::proofs::Headers::past_text, crate::proofs::Headers::comment_end))]
+fn past_line(s: &[u8]) -> &[u8]
+    ensures blanks { after_comment s.now ≡ after_blanks result.now }
+    ensures shorter { length result.now ≤ length s.now }
+{
+    let mut rest = s;
+    while let Some((b, after)) = rest.split_first() {
+        if ends_line(*b) {
+            return after;
         }
+        rest = after;
     }
-    i
+    rest
 }
 
-// The place past one white-space character or one comment, and the same place where there is neither.
-fn past_blank(s: &[u8], at: usize) -> usize
-    requires { at + 1 ≤ length s.now }
-    ensures { (after_blanks (drop at s.now) ≡ after_blanks (drop result s.now)) × (at ≤ result) × (result ≤ length s.now) × (result ≡ at → after_blanks (drop at s.now) ≡ drop at s.now) }
+// What follows one white-space character or one comment, if one is at the front.
+#[tactic(auto, using(crate::proofs::Headers::past_white, crate::proofs::Headers::past_hash, crate::proofs::Headers::blanks_end))]
+fn past_blank(s: &[u8]) -> Option<&[u8]>
+    ensures { MatchOption result (after_blanks s.now ≡ s.now) (λ rest. (after_blanks s.now ≡ after_blanks rest.now) × (length rest.now < length s.now)) }
 {
-    let b = s[at];
-    if is_white(b) {
-        return at + 1;
+    let (b, rest) = s.split_first()?;
+    if is_white(*b) {
+        return Some(rest);
     }
-    if b == b'#' {
-        return past_line(s, at + 1);
+    if *b == b'#' {
+        return Some(past_line(rest));
     }
-    at
+    None
 }
 
-// The place past white space and comments.
-fn past_blanks(s: &[u8], at: usize) -> usize
-    requires { at ≤ length s.now }
-    ensures { Place s.now (after_blanks (drop at s.now)) result }
+// What follows white space and comments.
+fn past_blanks(s: &[u8]) -> &[u8]
+    ensures { result.now ≡ after_blanks s.now }
 {
-    let mut i = at;
-    while i < s.len() {
-        let next = past_blank(s, i);
-        if next == i {
-            return i;
-        }
-        i = next;
+    let mut rest = s;
+    while let Some(after) = past_blank(rest) {
+        rest = after;
     }
-    i
+    rest
 }
 
-// Whether a byte is a decimal digit.
-fn is_digit(b: u8) -> bool
-    ensures { result ≡ is_digit b }
+// How many digits are at the front.
+fn digits_long(s: &[u8]) -> usize
+    ensures { result ≡ length (digits_of s.now) }
 {
-    if b < b'0' { false } else { b <= b'9' }
-}
-
-// The place past the digits at a place.
-fn past_digits(s: &[u8], at: usize) -> usize
-    requires { at ≤ length s.now }
-    ensures { result ≡ at + length (digits_of (drop at s.now)) }
-{
-    let mut i = at;
-    while i < s.len() {
-        if !is_digit(s[i]) {
-            return i;
-        }
-        i += 1;
-    }
-    i
+    s.iter().take_while(|b| b.is_ascii_digit()).count()
 }
 
 // The number after a further digit.
@@ -127,66 +97,53 @@ fn with_digit(n: u64, b: u8) -> u64
     requires b_value { is_digit b ≡ true }
     ensures { result ≡ held (n * 10 + (b - 48)) }
 {
-    let longer = n * 10 + (b - b'0') as u64;
-    if longer < NUMBER_MOST {
-        longer
-    } else {
-        NUMBER_MOST
-    }
+    (n * 10 + u64::from(b - b'0')).min(NUMBER_MOST)
 }
 
 // The number that digits write.
+#[tactic(auto, using(crate::proofs::Headers::numbered_all, crate::proofs::Headers::numbered_digit, crate::proofs::Headers::numbered_next))]
 fn number_of(digits: &[u8]) -> u64
     requires { all_digits digits.now ≡ true }
     ensures { result ≡ held (decimal_from 0 digits.now) }
 {
     let mut n: u64 = 0;
-    let mut i: usize = 0;
-    while i < digits.len() {
-        n = with_digit(n, digits[i]);
-        i += 1;
+    for b in digits {
+        n = with_digit(n, *b);
     }
     n
 }
 
-// The number at a place.
-pub fn read_number(s: &[u8], at: usize) -> Found
-    requires { at ≤ length s.now }
-    ensures { FoundAs s.now (take_number (drop at s.now)) result }
+// The number at the front.
+#[tactic(auto, using(crate::proofs::Headers::digits_inside, crate::proofs::Headers::digits_part, crate::proofs::Headers::digits_all, crate::proofs::Headers::number_none, crate::proofs::Headers::number_is))]
+pub fn read_number(s: &[u8]) -> Result<(u64, &[u8]), Refusal>
+    ensures { number_read result ≡ held_number (take_number s.now) }
 {
-    let end = past_digits(s, at);
-    if end == at {
-        return Found::None;
+    let long = digits_long(s);
+    if long == 0 {
+        return Err(Refusal::FileHeader);
     }
-    let n = number_of(&s[at..end]);
-    Found::Number(n, end)
+    let (digits, rest) = s.split_at(long);
+    Ok((number_of(digits), rest))
 }
 
-// The white space at a place and the number after it.
-pub fn read_spaced(s: &[u8], at: usize) -> Found
-    requires { at ≤ length s.now }
-    ensures { FoundAs s.now (take_spaced (drop at s.now)) result }
+// White space and then a number.
+#[tactic(auto, using(crate::proofs::Headers::spaced_none, crate::proofs::Headers::spaced_is))]
+pub fn read_spaced(s: &[u8]) -> Result<(u64, &[u8]), Refusal>
+    ensures { number_read result ≡ held_number (take_spaced s.now) }
 {
-    let next = past_blanks(s, at);
-    if next == at {
-        return Found::None;
+    let rest = past_blanks(s);
+    if rest.len() == s.len() {
+        return Err(Refusal::FileHeader);
     }
-    read_number(s, next)
+    read_number(rest)
 }
 
-// The number at a place and the word that ends it.
-pub fn read_ended(s: &[u8], at: usize, stop: &[u8]) -> Found
-    requires { at ≤ length s.now }
-    ensures { FoundAs s.now (take_ended stop.now (drop at s.now)) result }
+// A number and the word that ends it.
+#[tactic(auto, using(crate::proofs::Headers::held_is, crate::proofs::Headers::held_refused), unfolding(crate::specs::Header::take_ended))]
+pub fn read_ended<'a>(s: &'a [u8], stop: &[u8]) -> Result<(u64, &'a [u8]), Refusal>
+    ensures { number_read result ≡ held_number (take_ended stop.now s.now) }
 {
-    match read_number(s, at) {
-        Found::None => Found::None,
-        Found::Number(n, next) => {
-            if has_word(s, next, stop) {
-                Found::Number(n, next + stop.len())
-            } else {
-                Found::None
-            }
-        }
-    }
+    let (n, rest) = read_number(s)?;
+    let rest = read_word(rest, stop)?;
+    Ok((n, rest))
 }

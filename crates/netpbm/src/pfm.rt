@@ -1,110 +1,97 @@
 // Reading a PFM map: all of it is judged first, so that a refusal comes before any cell is written.
 ghost use Rattle.std.specs.Prelude.{◌≡◌, ◌*◌, length};
 ghost use Rattle.lists.specs.Rows.{bottom_up};
+ghost use Rattle.refusals.specs.Given.{given_back};
 ghost use Rattle.netpbm.specs.Pfm.{take_pfm_head, file_cells, read_pfm};
 ghost use Rattle.netpbm.specs.Outcome.{size_of, ReadOutcome};
-ghost use Rattle.netpbm.specs.Inner.{PfmAs, MapAs};
+ghost use Rattle.netpbm.specs.Inner.{pfm_read, held_pfm, MapAs};
 
-use crate::header::{Found, has_word, read_ended};
+use crate::header::{read_ended, read_word};
 use crate::order::{Order, cell_at};
 use crate::raster::{Size, judge_size};
-use crate::scale::{FoundScale, read_scale};
+use crate::scale::read_scale;
+use refusals::Refusal;
 
-// Order, width and height that were found, and the place past the header.
-#[derive(Drop)]
-pub enum FoundPfm {
-    Head(Order, u64, u64, usize),
-    None,
-}
-
-// The order, the width and the height of a map and the place of its cells, or the refusal.
-#[derive(Drop)]
-pub enum Map {
-    Raster(Order, usize, usize, usize),
-    Refused(u8),
+// Width, height and the order of the bytes, as the header says them.
+#[derive(Clone, Copy)]
+pub struct PfmNumbers {
+    pub width: u64,
+    pub height: u64,
+    pub order: Order,
 }
 
 // The header.
-fn read_pfm_head(s: &[u8]) -> FoundPfm
-    ensures { PfmAs s.now (take_pfm_head s.now) result }
+#[tactic(auto, using(crate::proofs::Headers::held_is, crate::proofs::Headers::held_refused), unfolding(crate::specs::Pfm::take_pfm_head))]
+fn read_pfm_head(s: &[u8]) -> Result<(PfmNumbers, &[u8]), Refusal>
+    ensures { pfm_read result ≡ held_pfm (take_pfm_head s.now) }
 {
-    if !has_word(s, 0, b"Pf\n") {
-        return FoundPfm::None;
-    }
-    let Found::Number(width, a) = read_ended(s, 3, b" ") else {
-        return FoundPfm::None;
-    };
-    let Found::Number(height, b) = read_ended(s, a, b"\n") else {
-        return FoundPfm::None;
-    };
-    match read_scale(s, b) {
-        FoundScale::None => FoundPfm::None,
-        FoundScale::Scale(order, at) => FoundPfm::Head(order, width, height, at),
-    }
+    let s = read_word(s, b"Pf\n")?;
+    let (width, s) = read_ended(s, b" ")?;
+    let (height, s) = read_ended(s, b"\n")?;
+    let (order, rest) = read_scale(s)?;
+    Ok((
+        PfmNumbers {
+            width,
+            height,
+            order,
+        },
+        rest,
+    ))
 }
 
-// A map all of which was judged.
-fn judge_pfm(s: &[u8]) -> Map
+// The order, the size and the cells' bytes of a map all of which was judged.
+#[tactic(auto, using(crate::proofs::Readings::map_none, crate::proofs::Readings::map_refused, crate::proofs::Readings::map_is))]
+fn judge_pfm(s: &[u8]) -> Result<(Order, Size, &[u8]), Refusal>
     ensures { MapAs s.now result }
 {
-    let FoundPfm::Head(order, width, height, at) = read_pfm_head(s) else {
-        return Map::Refused(41);
-    };
-    match judge_size(4, width, height, &s[at..]) {
-        Size::Refused(n) => Map::Refused(n),
-        Size::Is(w, h) => Map::Raster(order, w, h, at),
-    }
+    let (head, bytes) = read_pfm_head(s)?;
+    let size = judge_size(4, head.width, head.height, bytes)?;
+    Ok((head.order, size, bytes))
 }
 
 // Reads a row's cells.
+#[tactic(auto, using(crate::proofs::Rasters::filled_none, crate::proofs::Rasters::filled_all))]
 fn fill_row(order: Order, s: &[u8], out: &mut [f32])
     requires { length s.now ≡ 4 * length out.old }
     ensures { out.new ≡ file_cells order (length out.old) s.now }
 {
-    for i in 0..out.len() {
-        out[i] = cell_at(order, s, 4 * i);
+    for (i, cell) in out.iter_mut().enumerate() {
+        *cell = cell_at(order, s, 4 * i);
     }
 }
 
-// Reads the rows, of which the bottom one comes first.
+// Reads the rows, of which the bottom one comes first. They are counted: of cells lent by `chunks_mut` a proof knows nothing afterwards.
+#[tactic(auto, using(crate::proofs::Rasters::rows_none, crate::proofs::Rasters::rows_room, crate::proofs::Rasters::rows_lent))]
 fn fill_rows(order: Order, width: usize, height: usize, s: &[u8], out: &mut [f32])
     requires out_len { length out.old ≡ width * height }
     requires s_len { length s.now ≡ 4 * (width * height) }
     ensures { out.new ≡ bottom_up width height (file_cells order (width * height) s.now) }
 {
-    let t = &s[..];
-    let mut from: usize = 0;
-    let mut y = height;
-    while 0 < y {
-        y -= 1;
+    let mut from = 0;
+    for y in (0..height).rev() {
         let at = 4 * (y * width);
-        fill_row(order, &t[at..at + 4 * width], &mut out[from..from + width]);
+        fill_row(order, &s[at..at + 4 * width], &mut out[from..from + width]);
         from += width;
     }
 }
 
 // The size of a map, without its cells.
-pub fn pfm_size(s: &[u8]) -> Size
-    ensures { result ≡ size_of (read_pfm s.now) }
+pub fn pfm_size(s: &[u8]) -> Result<Size, Refusal>
+    ensures { given_back result ≡ size_of (read_pfm s.now) }
 {
-    match judge_pfm(s) {
-        Map::Refused(n) => Size::Refused(n),
-        Map::Raster(_, w, h, _) => Size::Is(w, h),
-    }
+    let (_, size, _) = judge_pfm(s)?;
+    Ok(size)
 }
 
 // Reads a map's cells into `out`, which is to be as long as the map.
-pub fn read_pfm(s: &[u8], out: &mut [f32]) -> Size
+#[tactic(auto, using(crate::proofs::Readings::read_refused, crate::proofs::Readings::read_unfit, crate::proofs::Readings::read_done))]
+pub fn read_pfm(s: &[u8], out: &mut [f32]) -> Result<Size, Refusal>
     ensures { ReadOutcome result (read_pfm s.now) out.old out.new }
 {
-    match judge_pfm(s) {
-        Map::Refused(n) => Size::Refused(n),
-        Map::Raster(order, w, h, at) => {
-            if out.len() != w * h {
-                return Size::Refused(45);
-            }
-            fill_rows(order, w, h, &s[at..], out);
-            Size::Is(w, h)
-        }
+    let (order, size, bytes) = judge_pfm(s)?;
+    if out.len() != size.width * size.height {
+        return Err(Refusal::FileOutput);
     }
+    fill_rows(order, size.width, size.height, bytes, out);
+    Ok(size)
 }

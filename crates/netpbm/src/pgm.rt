@@ -1,100 +1,75 @@
 // Reading a PGM picture: all of it is judged first, so that a refusal comes before any level is written.
-ghost use Rattle.std.specs.Prelude.{◌≡◌, true, false, ◌+◌, ◌≤◌, length, drop};
-ghost use Rattle.refusals.specs.Steps.{is, refused};
-ghost use Rattle.netpbm.specs.Header.{take_white};
+ghost use Rattle.std.specs.Prelude.{◌≡◌};
+ghost use Rattle.refusals.specs.Given.{given_back};
 ghost use Rattle.netpbm.specs.Pgm.{take_pgm_head, read_pgm};
 ghost use Rattle.netpbm.specs.Outcome.{size_of, ReadOutcome};
-ghost use Rattle.netpbm.specs.Inner.{PgmAs, PictureAs};
+ghost use Rattle.netpbm.specs.Inner.{pgm_read, held_pgm, PictureAs};
 
-use crate::header::{Found, has_word, is_white, read_spaced};
+use crate::header::{read_spaced, read_white, read_word};
 use crate::raster::{Size, judge_size};
-use texts::put_bytes;
+use refusals::Refusal;
 
 // The largest level, which is the only maximum that is read.
 const MAXIMUM: u64 = 255;
 
-// Width, height and maximum that were found, and the place past the header.
-#[derive(Drop)]
-pub enum FoundPgm {
-    Head(u64, u64, u64, usize),
-    None,
-}
-
-// The width and the height of a picture and the place of its levels, or the refusal.
-#[derive(Drop)]
-pub enum Picture {
-    Raster(usize, usize, usize),
-    Refused(u8),
-}
-
-// Whether a white-space character stands at a place.
-fn has_white(s: &[u8], at: usize) -> bool
-    ensures { (result ≡ true → (at + 1 ≤ length s.now) × (take_white (drop at s.now) ≡ is (drop (at + 1) s.now))) × (result ≡ false → take_white (drop at s.now) ≡ refused 41) }
-{
-    if at < s.len() { is_white(s[at]) } else { false }
+// Width, height and maximum, as the header says them.
+#[derive(Clone, Copy)]
+pub struct PgmNumbers {
+    pub width: u64,
+    pub height: u64,
+    pub maximum: u64,
 }
 
 // The header.
-fn read_pgm_head(s: &[u8]) -> FoundPgm
-    ensures { PgmAs s.now (take_pgm_head s.now) result }
+#[tactic(auto, using(crate::proofs::Headers::held_is, crate::proofs::Headers::held_refused), unfolding(crate::specs::Pgm::take_pgm_head))]
+fn read_pgm_head(s: &[u8]) -> Result<(PgmNumbers, &[u8]), Refusal>
+    ensures { pgm_read result ≡ held_pgm (take_pgm_head s.now) }
 {
-    if !has_word(s, 0, b"P5") {
-        return FoundPgm::None;
-    }
-    let Found::Number(width, a) = read_spaced(s, 2) else {
-        return FoundPgm::None;
-    };
-    let Found::Number(height, b) = read_spaced(s, a) else {
-        return FoundPgm::None;
-    };
-    let Found::Number(maximum, c) = read_spaced(s, b) else {
-        return FoundPgm::None;
-    };
-    if has_white(s, c) {
-        FoundPgm::Head(width, height, maximum, c + 1)
-    } else {
-        FoundPgm::None
-    }
+    let s = read_word(s, b"P5")?;
+    let (width, s) = read_spaced(s)?;
+    let (height, s) = read_spaced(s)?;
+    let (maximum, s) = read_spaced(s)?;
+    let rest = read_white(s)?;
+    Ok((
+        PgmNumbers {
+            width,
+            height,
+            maximum,
+        },
+        rest,
+    ))
 }
 
-// A picture all of which was judged.
-fn judge_pgm(s: &[u8]) -> Picture
+// The size of a picture all of which was judged, and its levels.
+#[tactic(auto, using(crate::proofs::Readings::picture_none, crate::proofs::Readings::picture_maximum, crate::proofs::Readings::picture_refused, crate::proofs::Readings::picture_is))]
+fn judge_pgm(s: &[u8]) -> Result<(Size, &[u8]), Refusal>
     ensures { PictureAs s.now result }
 {
-    let FoundPgm::Head(width, height, maximum, at) = read_pgm_head(s) else {
-        return Picture::Refused(41);
-    };
-    if maximum != MAXIMUM {
-        return Picture::Refused(42);
+    let (head, levels) = read_pgm_head(s)?;
+    if head.maximum != MAXIMUM {
+        return Err(Refusal::FileMaximum);
     }
-    match judge_size(1, width, height, &s[at..]) {
-        Size::Refused(n) => Picture::Refused(n),
-        Size::Is(w, h) => Picture::Raster(w, h, at),
-    }
+    let size = judge_size(1, head.width, head.height, levels)?;
+    Ok((size, levels))
 }
 
 // The size of a picture, without its levels.
-pub fn pgm_size(s: &[u8]) -> Size
-    ensures { result ≡ size_of (read_pgm s.now) }
+pub fn pgm_size(s: &[u8]) -> Result<Size, Refusal>
+    ensures { given_back result ≡ size_of (read_pgm s.now) }
 {
-    match judge_pgm(s) {
-        Picture::Refused(n) => Size::Refused(n),
-        Picture::Raster(w, h, _) => Size::Is(w, h),
-    }
+    let (size, _) = judge_pgm(s)?;
+    Ok(size)
 }
 
 // Reads a picture's levels into `out`, which is to be as long as the picture.
-pub fn read_pgm(s: &[u8], out: &mut [u8]) -> Size
+#[tactic(auto, using(crate::proofs::Readings::read_refused, crate::proofs::Readings::read_unfit, crate::proofs::Readings::read_done))]
+pub fn read_pgm(s: &[u8], out: &mut [u8]) -> Result<Size, Refusal>
     ensures { ReadOutcome result (read_pgm s.now) out.old out.new }
 {
-    match judge_pgm(s) {
-        Picture::Refused(n) => Size::Refused(n),
-        Picture::Raster(w, h, at) => {
-            if out.len() != w * h {
-                return Size::Refused(45);
-            }
-            put_bytes(&s[at..], out, 0);
-            Size::Is(w, h)
-        }
+    let (size, levels) = judge_pgm(s)?;
+    if out.len() != size.width * size.height {
+        return Err(Refusal::FileOutput);
     }
+    out.copy_from_slice(levels);
+    Ok(size)
 }

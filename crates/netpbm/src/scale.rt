@@ -1,72 +1,48 @@
 // The scale's line of a PFM header: only its sign counts, which says the order of the bytes.
-ghost use Rattle.std.specs.Prelude.{◌≡◌, ◌≤◌, length, drop};
+ghost use Rattle.std.specs.Prelude.{◌≡◌};
 ghost use Rattle.netpbm.specs.Pfm.{take_sign, take_fraction, take_scale};
-ghost use Rattle.netpbm.specs.Inner.{Place, FoundAs, ScaleAs};
+ghost use Rattle.netpbm.specs.Inner.{number_read, held_number, sign_read, scale_read};
 
-use crate::header::{Found, has_word, read_number};
+use crate::header::{read_number, read_word};
 use crate::order::Order;
+use refusals::Refusal;
 
-// The order that was found and the place past the line.
-#[derive(Drop)]
-pub enum FoundScale {
-    Scale(Order, usize),
-    None,
-}
-
-// The order that the sign at a place says.
-fn sign_order(s: &[u8], at: usize) -> Order
-    requires { at ≤ length s.now }
-    ensures { result ≡ (take_sign (drop at s.now)).order }
+// The order that the sign at the front says: a minus is little-endian, a plus or none big-endian.
+#[tactic(auto, using(crate::proofs::Headers::word_tested), unfolding(crate::specs::Pfm::take_sign))]
+fn read_sign(s: &[u8]) -> (Order, &[u8])
+    ensures { sign_read result ≡ take_sign s.now }
 {
-    if has_word(s, at, b"-") {
-        Order::Little
-    } else {
-        Order::Big
+    match s.strip_prefix(b"-") {
+        Some(rest) => (Order::Little, rest),
+        None => match s.strip_prefix(b"+") {
+            Some(rest) => (Order::Big, rest),
+            None => (Order::Big, s),
+        },
     }
 }
 
-// The place past the sign at a place.
-fn past_sign(s: &[u8], at: usize) -> usize
-    requires { at ≤ length s.now }
-    ensures { Place s.now (take_sign (drop at s.now)).rest result }
+// Perhaps a point with digits; without one the fraction is 0.
+#[tactic(auto, using(crate::proofs::Headers::word_tested), unfolding(crate::specs::Pfm::take_fraction))]
+fn read_fraction(s: &[u8]) -> Result<(u64, &[u8]), Refusal>
+    ensures { number_read result ≡ held_number (take_fraction s.now) }
 {
-    if has_word(s, at, b"-") {
-        return at + 1;
-    }
-    if has_word(s, at, b"+") { at + 1 } else { at }
-}
-
-// A point with digits at a place, or none.
-fn read_fraction(s: &[u8], at: usize) -> Found
-    requires { at ≤ length s.now }
-    ensures { FoundAs s.now (take_fraction (drop at s.now)) result }
-{
-    if has_word(s, at, b".") {
-        read_number(s, at + 1)
-    } else {
-        Found::Number(0, at)
+    match s.strip_prefix(b".") {
+        Some(rest) => read_number(rest),
+        None => Ok((0, s)),
     }
 }
 
-// The scale's line at a place.
-pub fn read_scale(s: &[u8], at: usize) -> FoundScale
-    requires { at ≤ length s.now }
-    ensures { ScaleAs s.now (take_scale (drop at s.now)) result }
+// The scale's line.
+#[tactic(auto, using(crate::proofs::Headers::held_is, crate::proofs::Headers::held_refused), unfolding(crate::specs::Pfm::take_scale))]
+pub fn read_scale(s: &[u8]) -> Result<(Order, &[u8]), Refusal>
+    ensures { scale_read result ≡ take_scale s.now }
 {
-    let order = sign_order(s, at);
-    let past = past_sign(s, at);
-    let Found::Number(whole, a) = read_number(s, past) else {
-        return FoundScale::None;
-    };
-    let Found::Number(fraction, b) = read_fraction(s, a) else {
-        return FoundScale::None;
-    };
+    let (order, s) = read_sign(s);
+    let (whole, s) = read_number(s)?;
+    let (fraction, s) = read_fraction(s)?;
     if whole + fraction == 0 {
-        return FoundScale::None;
+        return Err(Refusal::FileHeader);
     }
-    if has_word(s, b, b"\n") {
-        FoundScale::Scale(order, b + 1)
-    } else {
-        FoundScale::None
-    }
+    let rest = read_word(s, b"\n")?;
+    Ok((order, rest))
 }

@@ -1,14 +1,15 @@
 // Writing a PFM map: its size and the output's length are judged first, so that a refusal comes before any byte is written.
-ghost use Rattle.std.specs.Prelude.{◌≡◌, ◌+◌, ◌*◌, ◌≤◌, length};
+ghost use Rattle.std.specs.Prelude.{◌≡◌, ◌*◌, length};
 ghost use Rattle.lists.specs.Rows.{bottom_up};
-ghost use Rattle.lists.specs.Stores.{Wrote};
+ghost use Rattle.refusals.specs.Given.{given_back};
 ghost use Rattle.refusals.specs.Writes.{byte_count, WriteOutcome};
+ghost use Rattle.texts.specs.Pen.{HasRoom, Writes};
 ghost use Rattle.netpbm.specs.Pfm.{cells_bytes, pfm_head, pfm_of};
 
 use crate::order::{Order, put_cell};
-use maps::size_refusal;
-use refusals::Written;
-use texts::{places, put_byte, put_bytes, put_decimal};
+use maps::check_size;
+use refusals::Refusal;
+use texts::{Pen, places};
 
 // How many bytes the header takes.
 fn head_length(width: usize, height: usize) -> usize
@@ -18,79 +19,65 @@ fn head_length(width: usize, height: usize) -> usize
 }
 
 // How many bytes the file of a map takes.
-pub fn pfm_length(cells: &[f32], width: usize, height: usize) -> Written
-    ensures { result ≡ byte_count (pfm_of width height cells.now) }
+#[tactic(auto, using(crate::proofs::PfmWritings::pfm_counted, crate::proofs::PfmWritings::head_most), unfolding(refusals::specs::Answered::first_of, crate::specs::Pfm::pfm_of))]
+pub fn pfm_length(cells: &[f32], width: usize, height: usize) -> Result<usize, Refusal>
+    ensures { given_back result ≡ byte_count (pfm_of width height cells.now) }
 {
-    let refused = size_refusal(width, height, cells.len());
-    if refused != 0 {
-        return Written::Refused(refused);
+    check_size(width, height, cells.len())?;
+    Ok(head_length(width, height) + 4 * cells.len())
+}
+
+// Puts the header where a pen stands.
+fn put_head(width: usize, height: usize, pen: &mut Pen)
+    requires { HasRoom pen.old (length (pfm_head width height)) }
+    ensures { Writes pen.old (pfm_head width height) pen.new }
+{
+    pen.put_bytes(b"Pf\n");
+    pen.put_decimal(width);
+    pen.put_byte(b' ');
+    pen.put_decimal(height);
+    pen.put_byte(b'\n');
+    pen.put_bytes(b"-1.0\n");
+}
+
+// Puts a row's cells where a pen stands.
+fn put_row(order: Order, cells: &[f32], pen: &mut Pen)
+    requires { HasRoom pen.old (4 * length cells.now) }
+    ensures { Writes pen.old (cells_bytes order cells.now) pen.new }
+{
+    for x in cells {
+        put_cell(order, *x, pen);
     }
-    Written::Bytes(head_length(width, height) + 4 * cells.len())
 }
 
-// Puts the header at the front of `out`, and answers the place past it.
-fn put_head(width: usize, height: usize, out: &mut [u8]) -> usize
-    requires { length (pfm_head width height) ≤ length out.old }
-    ensures { Wrote out.old 0 (pfm_head width height) out.new result }
+// Puts the rows where a pen stands, the bottom row first.
+#[tactic(auto, using(crate::proofs::Rasters::row_room))]
+fn put_rows(order: Order, cells: &[f32], width: usize, height: usize, pen: &mut Pen)
+    requires cells_len { length cells.now ≡ width * height }
+    requires height_in_bounds { HasRoom pen.old (4 * (width * height)) }
+    ensures { Writes pen.old (cells_bytes order (bottom_up width height cells.now)) pen.new }
 {
-    let a = put_bytes(b"Pf\n", out, 0);
-    let b = put_decimal(width, out, a);
-    let c = put_byte(b' ', out, b);
-    let d = put_decimal(height, out, c);
-    let e = put_byte(b'\n', out, d);
-    put_bytes(b"-1.0\n", out, e)
-}
-
-// Puts a row's cells into `out` from `at` on, and answers the place past them.
-fn put_row(order: Order, cells: &[f32], out: &mut [u8], at: usize) -> usize
-    requires { at + 4 * length cells.now ≤ length out.old }
-    ensures { Wrote out.old at (cells_bytes order cells.now) out.new result }
-{
-    let mut next = at;
-    let mut i: usize = 0;
-    while i < cells.len() {
-        next = put_cell(order, cells[i], out, next);
-        i += 1;
+    for y in (0..height).rev() {
+        let from = y * width;
+        put_row(order, &cells[from..from + width], pen);
     }
-    next
 }
 
-// Puts the rows into `out` from `at` on, the bottom row first, and answers the place past them.
-fn put_rows(
-    order: Order,
+// Writes the file of a map at the front of `out`, and answers its byte count; bytes beyond it are left as they were.
+pub fn write_pfm(
     cells: &[f32],
     width: usize,
     height: usize,
     out: &mut [u8],
-    at: usize,
-) -> usize
-    requires cells_len { length cells.now ≡ width * height }
-    requires height_in_bounds { at + 4 * (width * height) ≤ length out.old }
-    ensures { Wrote out.old at (cells_bytes order (bottom_up width height cells.now)) out.new result }
-{
-    let mut next = at;
-    let mut y = height;
-    while 0 < y {
-        y -= 1;
-        let from = y * width;
-        next = put_row(order, &cells[from..from + width], out, next);
-    }
-    next
-}
-
-// Writes the file of a map at the front of `out`, and answers its byte count; bytes beyond it are left as they were.
-pub fn write_pfm(cells: &[f32], width: usize, height: usize, out: &mut [u8]) -> Written
+) -> Result<usize, Refusal>
     ensures { WriteOutcome 45 result (pfm_of width height cells.now) out.old out.new }
 {
-    match pfm_length(cells, width, height) {
-        Written::Refused(n) => Written::Refused(n),
-        Written::Bytes(n) => {
-            if out.len() < n {
-                return Written::Refused(45);
-            }
-            let at = put_head(width, height, out);
-            let past = put_rows(Order::Little, cells, width, height, out, at);
-            Written::Bytes(past)
-        }
+    let n = pfm_length(cells, width, height)?;
+    if out.len() < n {
+        return Err(Refusal::FileOutput);
     }
+    let mut pen = Pen { out, at: 0 };
+    put_head(width, height, &mut pen);
+    put_rows(Order::Little, cells, width, height, &mut pen);
+    Ok(pen.at)
 }

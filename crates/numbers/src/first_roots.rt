@@ -1,13 +1,17 @@
-// The table that every root begins with. It is made once and lent to all roots: a constant array is
-// written out anew, all 768 bytes of it, wherever the program names it.
+// The table that every root begins with.
 ghost use Rattle.std.specs.Prelude.{◌<◌, ◌≤◌};
 ghost use Rattle.numbers.specs.Root.{FirstRoot, FirstRoots};
 
-// A number for each i from 256 to 1,023.
-pub type Firsts = [u8; 768];
+// The first root of each i from 256 to 1,023. It is made once and lent to all roots: a constant array is written out anew,
+// all 768 bytes of it, wherever the program names it.
+#[derive(Drop)]
+pub struct Firsts {
+    roots: [u8; 768],
+    ghost are_first: { FirstRoots roots },
+}
 
 // The first roots: for each i from 256 to 1,023 the largest whole number whose square is at most 64·i.
-const FIRST_ROOTS: Firsts = [
+const FIRST_ROOTS: [u8; 768] = [
     128, 128, 128, 128, 128, 129, 129, 129, 129, 130, 130, 130, 130, 131, 131, 131, 131, 132, 132,
     132, 132, 133, 133, 133, 133, 134, 134, 134, 134, 135, 135, 135, 135, 136, 136, 136, 136, 136,
     137, 137, 137, 137, 138, 138, 138, 138, 139, 139, 139, 139, 139, 140, 140, 140, 140, 141, 141,
@@ -51,18 +55,26 @@ const FIRST_ROOTS: Firsts = [
     254, 255, 255, 255, 255, 255, 255, 255,
 ];
 
-// The table, all of whose entries are first roots.
-pub fn first_roots() -> Firsts
+// The entries, all of which are first roots.
+fn entries() -> [u8; 768]
     ensures { FirstRoots result }
 {
     FIRST_ROOTS
 }
 
-// The first root of i.
-pub fn first_root(firsts: &Firsts, i: usize) -> u8
-    requires { (256 ≤ i) × (i < 1024) × FirstRoots firsts.now }
-    ensures { FirstRoot i result }
+// The table.
+pub fn first_roots() -> Firsts
+    ensures { FirstRoots result.roots }
 {
-    let at = i - 256;
-    firsts[at]
+    Firsts { roots: entries() }
+}
+
+impl Firsts {
+    // The first root of i.
+    pub fn first_root(&self, i: usize) -> u8
+        requires { (256 ≤ i) × (i < 1024) }
+        ensures { FirstRoot i result }
+    {
+        self.roots[i - 256]
+    }
 }

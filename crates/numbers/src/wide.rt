@@ -1,4 +1,5 @@
 // What `plain` and `away` have of an `f32`, of an `f64`: its magnitude, and rounded to a whole number, halves away from zero.
+// A trait would have to list each float operation that the bodies use, and be longer than they are.
 ghost use Rattle.std.specs.Prelude.{◌≡◌};
 ghost use Rattle.std.specs.Float.{binary64};
 ghost use Rattle.numbers.specs.Away.{rounded_away};

@@ -7,7 +7,7 @@ ghost use Rattle.options.specs.Frame.{within, is_in_frame};
 ghost use Rattle.options.specs.Options.{mode_of, uses_paths, default_options};
 ghost use Rattle.options.specs.Costs.{stored, raw_of};
 
-// The sizes allowed (document 01, "Sizes and rooms"): width and height, the block's side, disparities searched, the first
+// The sizes allowed (docs/SPECIFICATION.md, "Sizes and rooms"): width and height, the block's side, disparities searched, the first
 // disparity either way, and a penalty.
 pub const SIDE_MOST: usize = 2048;
 
@@ -74,52 +74,54 @@ pub fn is_inner(w: usize, h: usize, r: usize, x: usize, y: usize) -> bool
     }
 }
 
-// A raw cost: blank, or a correlation.
-#[derive(Clone, Copy)]
+// A raw cost: blank, or a correlation. It is no `Option`: the specification names this enum and its cases.
+#[derive(Clone, Copy, Debug, PartialEq)]
 pub enum RawCost {
     Blank,
     Corr(f32),
 }
 
-impl RawCost {
-    // A raw cost in a float buffer: blank is negative infinity.
-    pub fn stored(self) -> f32
-        ensures { result ≡ stored self }
-    {
-        match self {
+// A raw cost in a float buffer: blank is negative infinity.
+impl From<RawCost> for f32 {
+    ghost from_gives = { λ cost cell. cell ≡ stored cost };
+
+    fn from(cost: RawCost) -> f32 {
+        match cost {
             RawCost::Blank => -1.0 / 0.0,
             RawCost::Corr(v) => v,
         }
     }
+}
 
-    // The raw cost that a cell of a float buffer holds.
-    pub fn of_cell(v: f32) -> RawCost
-        ensures { result ≡ raw_of v }
-    {
-        if v == -1.0 / 0.0 {
+// The raw cost that a cell of a float buffer holds.
+impl From<f32> for RawCost {
+    ghost from_gives = { λ cell cost. cost ≡ raw_of cell };
+
+    fn from(cell: f32) -> RawCost {
+        if cell == -1.0 / 0.0 {
             RawCost::Blank
         } else {
-            RawCost::Corr(v)
+            RawCost::Corr(cell)
         }
     }
 }
 
 // Which picture is the reference.
-#[derive(Clone, Copy)]
+#[derive(Clone, Copy, Debug, PartialEq, Eq)]
 pub enum Side {
     Left,
     Right,
 }
 
 // How a disparity is chosen: by the raw costs themselves, or by costs added up along eight paths.
-#[derive(Clone, Copy)]
+#[derive(Clone, Copy, Debug, PartialEq, Eq)]
 pub enum Mode {
     Block,
     SemiGlobal,
 }
 
 impl Mode {
-    // The mode of a flag, as hosts and the print program give it: semi-global or not.
+    // The mode of a flag, as hosts and the print program give it: semi-global or not. No `From<bool>`: it would not say which is which.
     pub fn of_flag(semi_global: bool) -> Mode
         ensures { result ≡ mode_of semi_global }
     {
@@ -142,7 +144,7 @@ impl Mode {
 }
 
 // The options of a match.
-#[derive(Clone, Copy)]
+#[derive(Clone, Copy, Debug, PartialEq)]
 pub struct BlockMatchOptions {
     // The first disparity, in pixels, and how many are searched.
     pub min_disparity: i32,

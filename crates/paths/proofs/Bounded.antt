@@ -15,8 +15,7 @@ use Rattle.lists.specs.Lists.{list_of}
 use Rattle.lists.proofs.Tests.{lt-or-le}
 use Rattle.numbers.specs.Plain.{smaller_of}
 use Rattle.paths.specs.declared.direction.Walk.{Walk}
-use Rattle.paths.specs.declared.direction.Place.{Place}
-use Rattle.paths.specs.declared.direction.Place.TheVariants.{At, Nowhere}
+use Rattle.std.specs.Prelude.{Option, None, Some}
 use Rattle.paths.specs.Bounds.{UpTo, All}
 use Rattle.paths.specs.Path.{least_from, least_of, from_below, from_above, best_of, step_cell, step_vec, add_vec}
 use Rattle.paths.specs.Walk.{previous_of, path_from, path_cells, walk_along, path_within, path_at, joined, path_volume, pixels_in, cells_in, Direction, directions, add_paths, path_sums, zeros}
@@ -225,12 +224,12 @@ module _ (k : Walk) (c : List Float) (dir : Direction k.dx k.dy) (k1 : Adds k.p1
   cells-range : (p : ℕ) → All (UpTo 2) (path_cells k.count c p)
   cells-range p = all_take (UpTo 2) k.count (drop (p * k.count) c) (all_drop (UpTo 2) (p * k.count) c costs)
 
-  from-range : (f : ℕ → List Float) (p : ℕ) → p < pixels_in k → (a : Place) → ((q : ℕ) → a ≡ At q → (length (f q) ≡ k.count) × All (UpTo 1027) (f q))
+  from-range : (f : ℕ → List Float) (p : ℕ) → p < pixels_in k → (a : Option ℕ) → ((q : ℕ) → a ≡ Some q → (length (f q) ≡ k.count) × All (UpTo 1027) (f q))
       → All (UpTo 1027) (path_from k f (path_cells k.count c p) a)
-  from-range f p hp (At q) h =
+  from-range f p hp (Some q) h =
       let b = h q refl in
       step_range k.p1 k.p2 k1 k2 (f q) (path_cells k.count c p) (b.0 ∙ sym (cells-length k c size p hp)) (omega (arith, b.0)) b.1 (cells-range p)
-  from-range f p hp Nowhere h = all_more 2 1027 (path_cells k.count c p) (lit≤ tt) (cells-range p)
+  from-range f p hp None h = all_more 2 1027 (path_cells k.count c p) (lit≤ tt) (cells-range p)
 
   within-range : (n p : ℕ) → p < pixels_in k → All (UpTo 1027) (path_within k c n p)
   unfolding path_within

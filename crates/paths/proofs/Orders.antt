@@ -9,6 +9,7 @@ use native.Mathlib.Omega.{arith}
 use borrow.Author.Tests.{lt-ltb, le-ltb}
 use lib.Dec.{T, ltb, lit≤}
 use lib.Pow.{pow_pos, pow-add}
+use Rattle.std.proofs.Common.{min}
 use lib.ListN.{length, get_or, drop}
 use lib.Ieee.{Float, nan, inf, fin, binary32, down, size, lt, fits, is_nan, to_bits, of_bits, nan_bits}
 use lib.Ieee.Bits.{of_bits-to_bits}
@@ -20,10 +21,8 @@ use Rattle.numbers.specs.Plain.{smaller_of}
 use Rattle.numbers.proofs.Patterns.{no-nan-bits}
 use Rattle.paths.specs.Bounds.{UpTo, All}
 use Rattle.paths.specs.Path.{least_from, least_of}
-use Rattle.paths.specs.Room.{run}
 use Rattle.paths.proofs.Units.{one, lt-is}
 use Rattle.paths.proofs.Counts.{Num, counted}
-use Rattle.paths.proofs.Parts.{length_run, get_d-run}
 use Rattle.paths.proofs.Bounded.{all-at}
 use Rattle.paths.proofs.Steps.{least-turn, least-done}
 
@@ -139,6 +138,9 @@ found-order x y f t =
     (λ (s : UpTo 1027 x). let a = counted 1027 x s in let b = counted 1027 y t in bits-order y x b.u a.u b.num a.num)
     f
 
+least-bits : (a b : ℕ) → min a b ≡ cond (ltb b a) b a
+least-bits a b = ⊎_elim (λ (h : b < a). rw (lt-ltb b a h) (omega arith)) (λ (h : a ≤ b). rw (le-ltb b a h) (omega arith)) (lt-or-le b a)
+
 -- after k turns the pattern is that of a number, and the least of it and of the rest is that of all
 pub record Lowest (bits k : ℕ) (cells : List Float) : Type 0 where
   pub x : Float
@@ -150,20 +152,16 @@ pub lowest-none : (cells : List Float) → Lowest 2139095040 0 cells
 unfolding to_bits least_of
 lowest-none cells = record { x = inf false; is = refl; found = inl refl; rest = refl }
 
-pub cell-upto : (n at : ℕ) (v : List Float) (k : ℕ) → at + n ≤ length v → All (UpTo 1027) (run n at v) → k < n → UpTo 1027 (get_or v (at + k) nan)
-cell-upto n at v k hv all h = subst (UpTo 1027) (get_d-run n at v k nan h) (all-at (UpTo 1027) (run n at v) k nan all (omega (arith, length_run n at v hv)))
-
-pub lowest-turn : (n at : ℕ) (v : List Float) (k bits r : ℕ) → at + n ≤ length v → All (UpTo 1027) (run n at v) → k < n → Lowest bits k (run n at v)
-    → r ≡ cond (ltb (to_bits binary32 (get_or v (at + k) nan)) bits) (to_bits binary32 (get_or v (at + k) nan)) bits → Lowest r (k + 1) (run n at v)
-lowest-turn n at v k bits r hv all h l e =
-    let y = get_or v (at + k) nan in
-    let t = cell-upto n at v k hv all h in
+pub lowest-turn : (cells : List Float) (k bits : ℕ) → All (UpTo 1027) cells → k < length cells → Lowest bits k cells → Lowest (min bits (to_bits binary32 (get_or cells k nan))) (k + 1) cells
+lowest-turn cells k bits all h l =
+    let y = get_or cells k nan in
+    let t = all-at (UpTo 1027) cells k nan all h in
     let test : ltb (to_bits binary32 y) bits ≡ lt y l.x = ap (ltb (to_bits binary32 y)) l.is ∙ found-order l.x y l.found t in
     record {
       x = smaller_of l.x y;
-      is = e ∙ ap (λ (b : Bool). cond b (to_bits binary32 y) bits) test ∙ ap (cond (lt y l.x) (to_bits binary32 y)) l.is ∙ taken (lt y l.x) y l.x;
+      is = least-bits bits (to_bits binary32 y) ∙ ap (λ (b : Bool). cond b (to_bits binary32 y) bits) test ∙ ap (cond (lt y l.x) (to_bits binary32 y)) l.is ∙ taken (lt y l.x) y l.x;
       found = either (lt y l.x) y l.x (inr t) l.found;
-      rest = least-turn n at v k l.x (smaller_of l.x y) hv h refl ∙ l.rest;
+      rest = least-turn cells k l.x (smaller_of l.x y) h refl ∙ l.rest;
     }
   where
     taken : (b : Bool) (y x : Float) → cond b (to_bits binary32 y) (to_bits binary32 x) ≡ to_bits binary32 (cond b y x)

@@ -3,7 +3,7 @@ use Prim.Native.Nat.{ℕ, zero, suc, ◌+◌, ◌-◌, ◌*◌, ◌/◌, ◌%◌
 use mathlib.Core.Path.{◌≡◌, refl, sym, ap, ◌∙◌}
 use mathlib.Core.Bool.{Bool, true, false, cond}
 use mathlib.Core.Logic.{⊎_elim}
-use native.Mathlib.Nat.{add-zero, mod-lt, div-add-mod', suc-mul, zero-mul, add-mul, mul_comm, mul-le-mul_right}
+use native.Mathlib.Nat.{add-zero, mod-lt, div-add-mod', suc-mul, add-mul, mul_comm}
 use native.Mathlib.Numerals.{add-one}
 use native.Mathlib.Omega.{arith}
 use borrow.Author.Tests.{lt-ltb, le-ltb, ltb-true}
@@ -11,36 +11,41 @@ use lib.Dec.{ltb, eqb}
 use lib.IntN.{ℤ, pos, negsuc, ◌-ℤ◌, sub_ℕ}
 use mir.Syntax.{w32}
 use mir.Val.{of_z, to_z}
-use Rattle.lists.proofs.Rows.{pixel-in, mul-pos-left}
+use Rattle.std.specs.Option.{SomeIff}
+use Rattle.lists.proofs.Rows.{in-column, in-row, pixel-in, mul-pos-left}
 use Rattle.lists.proofs.Tests.{lt-or-le}
 use Rattle.paths.specs.declared.direction.Walk.{Walk}
-use Rattle.paths.specs.declared.direction.Place.{Place}
-use Rattle.paths.specs.declared.direction.Place.TheVariants.{At, Nowhere}
+use Rattle.std.specs.Prelude.{Option, None, Some}
 use Rattle.paths.specs.Walk.{place_in, step_back, pixel_of, previous_of, pixels_in, is_forward, UnitStep, Direction}
 
 -- one step back, by the step
 module _ (n x : ℕ) (d : ℤ) where
-  pub back_none : d ≡ pos 0 → x < n → step_back n d x ≡ At x
+  pub back_none : d ≡ pos 0 → x < n → step_back n d x ≡ Some x
   unfolding step_back
   back_none e h = rw (e, add-zero, lt-ltb x n h)
 
-  pub back-up-start : d ≡ pos 1 → x ≡ 0 → step_back n d x ≡ Nowhere
+  pub back-up-start : d ≡ pos 1 → x ≡ 0 → step_back n d x ≡ None
   unfolding step_back
   back-up-start e h = rw (e, h)
 
-  pub back-up : d ≡ pos 1 → 0 < x → x < n → step_back n d x ≡ At (x - 1)
+  pub back-up : d ≡ pos 1 → 0 < x → x < n → step_back n d x ≡ Some (x - 1)
   unfolding step_back
   back-up e h h' =
       let in-n : x - 1 < n = omega arith in
       rw (e, le-ltb x 1 h, lt-ltb (x - 1) n in-n)
 
-  pub back-down : d ≡ negsuc 0 → x + 1 < n → step_back n d x ≡ At (x + 1)
+  pub back-down : d ≡ negsuc 0 → x + 1 < n → step_back n d x ≡ Some (x + 1)
   unfolding step_back
   back-down e h = rw (e, lt-ltb (x + 1) n h)
 
-  pub back-down-start : d ≡ negsuc 0 → n ≤ x + 1 → step_back n d x ≡ Nowhere
+  pub back-down-start : d ≡ negsuc 0 → n ≤ x + 1 → step_back n d x ≡ None
   unfolding step_back
   back-down-start e h = rw (e, le-ltb (x + 1) n h)
+
+  -- what is left of x, or nothing
+  pub back-checked : (r : Option ℕ) → d ≡ pos 1 → x < n → SomeIff r (1 ≤ x) (x - 1) → r ≡ step_back n d x
+  back-checked None e h f = sym (back-up-start e (⊎_elim (λ (z : x < 1). omega arith) (λ (z : 1 ≤ x). absurd (f z)) (lt-or-le x 1)))
+  back-checked (Some y) e h f = ap Some f.1 ∙ sym (back-up e f.0 h)
 
 -- a step by its bits
 by-step : {P : Type 0} (d : ℤ) → UnitStep d → (d ≡ pos 0 → P) → (d ≡ pos 1 → P) → (d ≡ negsuc 0 → P) → P
@@ -70,27 +75,27 @@ pub forward-row : (dx dy : ℤ) → UnitStep dy → (of_z w32 dy ≡ 0 → ⊥) 
 forward-row dx dy u n = by-step dy u (λ f. absurd (n (ap (of_z w32) f))) (λ f. rw f) (λ f. rw f)
 
 -- what a place tells
-known-place : (n z y : ℕ) (b : Bool) → ltb z n ≡ b → cond b (At z) Nowhere ≡ At y → (y < n) × (z ≡ y)
+known-place : (n z y : ℕ) (b : Bool) → ltb z n ≡ b → cond b (Some z) None ≡ Some y → (y < n) × (z ≡ y)
 known-place n z y true e p = let q : z ≡ y = cc in (omega (arith, ltb-true z n e), q)
 known-place n z y false e p = absurd (let o : ◌≡◌ {A = ℕ} 0 1 = cc in omega arith)
 
-in_place : (n : ℕ) (z : ℤ) (y : ℕ) → place_in n z ≡ At y → (y < n) × (z ≡ pos y)
+in_place : (n : ℕ) (z : ℤ) (y : ℕ) → place_in n z ≡ Some y → (y < n) × (z ≡ pos y)
 in_place n (pos z) y e = let k = known-place n z y (ltb z n) refl e in (k.0, ap pos k.1)
 in_place n (negsuc z) y e = absurd (let o : ◌≡◌ {A = ℕ} 0 1 = cc in omega arith)
 
-pub back_in : (n x : ℕ) (d : ℤ) (y : ℕ) → step_back n d x ≡ At y → y < n
+pub back_in : (n x : ℕ) (d : ℤ) (y : ℕ) → step_back n d x ≡ Some y → y < n
 unfolding step_back
 back_in n x d y e = (in_place n (pos x -ℤ d) y e).0
 
-from-none : (n x : ℕ) (d : ℤ) (y : ℕ) → d ≡ pos 0 → step_back n d x ≡ At y → y ≡ x
+from-none : (n x : ℕ) (d : ℤ) (y : ℕ) → d ≡ pos 0 → step_back n d x ≡ Some y → y ≡ x
 unfolding step_back
 from-none n x d y f e = let g : pos (x + 0) ≡ pos y = rw f at (in_place n (pos x -ℤ d) y e).1 in let k : x + 0 ≡ y = cc in omega arith
 
-from-down : (n x : ℕ) (d : ℤ) (y : ℕ) → d ≡ negsuc 0 → step_back n d x ≡ At y → y ≡ x + 1
+from-down : (n x : ℕ) (d : ℤ) (y : ℕ) → d ≡ negsuc 0 → step_back n d x ≡ Some y → y ≡ x + 1
 unfolding step_back
 from-down n x d y f e = let g : pos (x + 1) ≡ pos y = rw f at (in_place n (pos x -ℤ d) y e).1 in cc
 
-from_up : (n x : ℕ) (d : ℤ) (y : ℕ) → d ≡ pos 1 → step_back n d x ≡ At y → y + 1 ≡ x
+from_up : (n x : ℕ) (d : ℤ) (y : ℕ) → d ≡ pos 1 → step_back n d x ≡ Some y → y + 1 ≡ x
 unfolding step_back
 from_up n zero d y f e = absurd (let g = back-up-start n zero d f refl in let o : ◌≡◌ {A = ℕ} 0 1 = cc in omega arith)
 from_up n (suc x) d y f e =
@@ -101,17 +106,41 @@ from_up n (suc x) d y f e =
 
 -- the previous pixel, from the places before
 module _ (k : Walk) (p : ℕ) where
-  pub no-column : step_back k.w k.dx (p % k.w) ≡ Nowhere → previous_of k p ≡ Nowhere
+  pub no-column : step_back k.w k.dx (p % k.w) ≡ None → previous_of k p ≡ None
   unfolding previous_of
   no-column e = rw e
 
-  pub no_row : (x : ℕ) → step_back k.w k.dx (p % k.w) ≡ At x → step_back k.h k.dy (p / k.w) ≡ Nowhere → previous_of k p ≡ Nowhere
+  pub no_row : (x : ℕ) → step_back k.w k.dx (p % k.w) ≡ Some x → step_back k.h k.dy (p / k.w) ≡ None → previous_of k p ≡ None
   unfolding previous_of
   no_row x e f = rw (e, f)
 
-  pub both-places : (x y : ℕ) → step_back k.w k.dx (p % k.w) ≡ At x → step_back k.h k.dy (p / k.w) ≡ At y → previous_of k p ≡ At (y * k.w + x)
+  pub both-places : (x y : ℕ) → step_back k.w k.dx (p % k.w) ≡ Some x → step_back k.h k.dy (p / k.w) ≡ Some y → previous_of k p ≡ Some (y * k.w + x)
   unfolding previous_of
   both-places x y e f = rw (e, f)
+
+-- the same of column x of row y, by steps that were read back from their bits
+module _ (k : Walk) (dir : Direction k.dx k.dy) (x y : ℕ) (hx : x < k.w) where
+  column-is : {r : Option ℕ} → r ≡ step_back k.w (to_z w32 (of_z w32 k.dx)) x → step_back k.w k.dx ((y * k.w + x) % k.w) ≡ r
+  column-is e = rw (in-column k.w x y hx) (sym (e ∙ ap (λ (d : ℤ). step_back k.w d x) (unit-same k.dx dir.column)))
+
+  row-is : {r : Option ℕ} → r ≡ step_back k.h (to_z w32 (of_z w32 k.dy)) y → step_back k.h k.dy ((y * k.w + x) / k.w) ≡ r
+  row-is e = rw (in-row k.w x y hx) (sym (e ∙ ap (λ (d : ℤ). step_back k.h d y) (unit-same k.dy dir.row)))
+
+  pub off-column : None ≡ step_back k.w (to_z w32 (of_z w32 k.dx)) x → previous_of k (y * k.w + x) ≡ None
+  off-column e = no-column k (y * k.w + x) (column-is e)
+
+  pub off-row : (a : ℕ) → Some a ≡ step_back k.w (to_z w32 (of_z w32 k.dx)) x → None ≡ step_back k.h (to_z w32 (of_z w32 k.dy)) y → previous_of k (y * k.w + x) ≡ None
+  off-row a e f = no_row k (y * k.w + x) a (column-is e) (row-is f)
+
+  module _ (a b : ℕ) (e : Some a ≡ step_back k.w (to_z w32 (of_z w32 k.dx)) x) (f : Some b ≡ step_back k.h (to_z w32 (of_z w32 k.dy)) y) where
+    pub on-both : previous_of k (y * k.w + x) ≡ Some (b * k.w + a)
+    on-both = both-places k (y * k.w + x) a b (column-is e) (row-is f)
+
+    pub on-column : a < k.w
+    on-column = back_in k.w ((y * k.w + x) % k.w) k.dx a (column-is e)
+
+    pub on-picture : b * k.w + a < pixels_in k
+    on-picture = pixel-in k.w k.h a b on-column (back_in k.h ((y * k.w + x) / k.w) k.dy b (row-is f))
 
 -- ---- the previous pixel has a smaller rank
 
@@ -122,19 +151,19 @@ rank_of f n p = cond f p (n - 1 - p)
 abbrev pub rank : Walk → ℕ → ℕ
 rank k p = rank_of (is_forward k.dx k.dy) (pixels_in k) p
 
-record Found (w : ℕ) (a b : Place) (q : ℕ) : Type 0 where
+record Found (w : ℕ) (a b : Option ℕ) (q : ℕ) : Type 0 where
   x : ℕ
   y : ℕ
-  column : a ≡ At x
-  row : b ≡ At y
+  column : a ≡ Some x
+  row : b ≡ Some y
   is : q ≡ y * w + x
 
-found : (w : ℕ) (a b : Place) (q : ℕ) → pixel_of w a b ≡ At q → Found w a b q
-found w (At x) (At y) q e = record { x = x; y = y; column = refl; row = refl; is = cc }
-found w (At x) Nowhere q e = absurd (let o : ◌≡◌ {A = ℕ} 0 1 = cc in omega arith)
-found w Nowhere b q e = absurd (let o : ◌≡◌ {A = ℕ} 0 1 = cc in omega arith)
+found : (w : ℕ) (a b : Option ℕ) (q : ℕ) → pixel_of w a b ≡ Some q → Found w a b q
+found w (Some x) (Some y) q e = record { x = x; y = y; column = refl; row = refl; is = cc }
+found w (Some x) None q e = absurd (let o : ◌≡◌ {A = ℕ} 0 1 = cc in omega arith)
+found w None b q e = absurd (let o : ◌≡◌ {A = ℕ} 0 1 = cc in omega arith)
 
-module _ (k : Walk) (dir : Direction k.dx k.dy) (p : ℕ) (hp : p < pixels_in k) (q : ℕ) (e : previous_of k p ≡ At q) where
+module _ (k : Walk) (dir : Direction k.dx k.dy) (p : ℕ) (hp : p < pixels_in k) (q : ℕ) (e : previous_of k p ≡ Some q) where
   abbrev w : ℕ
   w = k.w
 
@@ -222,29 +251,7 @@ pub rank_below : (f : Bool) (n p : ℕ) → p < n → rank_of f n p < n
 rank_below true n p h = h
 rank_below false n p h = omega arith
 
--- ---- turn i of line j, beside the number of the turn
-
-pub record OnLine (w t i j : ℕ) : Type 0 where
-  pub is : t ≡ j * w + i
-  pub inside : 0 < w → i < w
-
-pub line-start : (w : ℕ) → OnLine w 0 0 0
-line-start w = record { is = omega (arith, zero-mul w); inside = λ h. h }
-
-pub line-in : (w h t i j : ℕ) → t ≡ j * w + i → t < w * h → j < h
-line-in w h t i j e l =
-    ⊎_elim (λ (b : j < h). b) (λ (b : h ≤ j). absurd (omega (arith, mul-le-mul_right w b, mul_comm w h))) (lt-or-le j h)
-
-pub line-next : (w t i j : ℕ) → OnLine w t i j → i < w → (i' j' : ℕ) → i' ≡ cond (ltb (i + 1) w) (i + 1) 0 → j' ≡ cond (ltb (i + 1) w) j (j + 1) → OnLine w (t + 1) i' j'
-line-next w t i j o h i' j' ei ej =
-    ⊎_elim
-    (λ (l : i + 1 < w). let a : i' ≡ i + 1 = rw (lt-ltb (i + 1) w l) at ei in
-    let b : j' ≡ j = rw (lt-ltb (i + 1) w l) at ej in
-    record { is = omega (arith, o.is, ap (λ (z : ℕ). z * w) b); inside = λ z. omega arith })
-    (λ (l : w ≤ i + 1). let a : i' ≡ 0 = rw (le-ltb (i + 1) w l) at ei in
-    let b : j' ≡ j + 1 = rw (le-ltb (i + 1) w l) at ej in
-    record { is = omega (arith, o.is, ap (λ (z : ℕ). z * w) (b ∙ add-one j), suc-mul j w); inside = λ z. omega arith })
-    (lt-or-le (i + 1) w)
+-- ---- turn i of line j
 
 -- the pixel of a turn, by its column and its row
 pub turn-pixel : (f : Bool) (w h i j : ℕ) → i < w → j < h → cond f j (h - 1 - j) * w + cond f i (w - 1 - i) ≡ cond f (j * w + i) (w * h - 1 - (j * w + i))

@@ -1,4 +1,4 @@
--- Document 01, "Path costs": each L lies from 0 to 1,027, each sum from 0 to 8,216, for any raw volume whose raw costs are blank or lie from -1 to 1, and for
+-- docs/SPECIFICATION.md, "Path costs": each L lies from 0 to 1,027, each sum from 0 to 8,216, for any raw volume whose raw costs are blank or lie from -1 to 1, and for
 -- any penalties that are not refused. Assumes nothing.
 use Prim.Native.Nat.{ℕ, ◌+◌, ◌-◌, ◌*◌, ◌/◌, ◌%◌, ◌<◌, ◌≤◌}
 use mathlib.Core.Path.{◌≡◌, refl, sym, ◌∙◌, subst}

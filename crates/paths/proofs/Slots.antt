@@ -8,8 +8,7 @@ use native.Mathlib.Omega.{arith}
 use Rattle.lists.proofs.Rows.{in-column, in-row, pixel-in, mul-pos-left, row_below}
 use Rattle.lists.proofs.Tests.{lt-or-le}
 use Rattle.paths.specs.declared.direction.Walk.{Walk}
-use Rattle.paths.specs.declared.direction.Place.{Place}
-use Rattle.paths.specs.declared.direction.Place.TheVariants.{At, Nowhere}
+use Rattle.std.specs.Prelude.{Option, None, Some}
 use Rattle.paths.specs.Walk.{previous_of, slot_row, slot_of, slot_in, pixels_in, is_forward, Direction}
 use Rattle.paths.proofs.Places.{rank, rank_of, previous-in, previous-earlier, previous-near}
 
@@ -21,9 +20,6 @@ slot_at w x y h = rw (in-column w x y h, in-row w x y h)
 -- no slot is behind its pixel, so that none is off the picture
 row-most : (y : ℕ) → slot_row y ≤ y
 row-most y = omega arith
-
-pub slot-most : (w x y : ℕ) → slot_row y * w + x ≤ y * w + x
-slot-most w x y = omega (arith, mul-le-mul_right w (row-most y))
 
 pub slot-in : (w h p : ℕ) → p < w * h → slot_of w p < w * h
 unfolding slot_of
@@ -58,20 +54,20 @@ module _ (k : Walk) where
   slot-later p q hp hq e l = far-turns (is_forward k.dx k.dy) k.w (pixels_in k) p q (mul-pos-left p k.w k.h hp) hp hq e l
 
   -- a pixel's slot is not the one that its step reads
-  pub slot-other : Direction k.dx k.dy → (p : ℕ) → p < pixels_in k → (q : ℕ) → previous_of k p ≡ At q → slot_of k.w q ≡ slot_of k.w p → ⊥
+  pub slot-other : Direction k.dx k.dy → (p : ℕ) → p < pixels_in k → (q : ℕ) → previous_of k p ≡ Some q → slot_of k.w q ≡ slot_of k.w p → ⊥
   slot-other dir p hp q e s =
       omega (arith, slot-later q p (previous-in k dir p hp q e) hp s (previous-earlier k dir p hp q e), previous-near k dir p hp q e)
 
 -- the pixel of a slot that was found
-pub record OfSlot (w : ℕ) (a : Place) (r : ℕ) : Type 0 where
+pub record OfSlot (w : ℕ) (a : Option ℕ) (r : ℕ) : Type 0 where
   pub q : ℕ
-  pub pixel : a ≡ At q
+  pub pixel : a ≡ Some q
   pub slot : slot_of w q ≡ r
 
-pub of-slot : (w : ℕ) (a : Place) (r : ℕ) → slot_in w a ≡ At r → OfSlot w a r
-of-slot w (At q) r e = record { q = q; pixel = refl; slot = cc }
-of-slot w Nowhere r e = absurd (let o : ◌≡◌ {A = ℕ} 0 1 = cc in omega arith)
+pub of-slot : (w : ℕ) (a : Option ℕ) (r : ℕ) → slot_in w a ≡ Some r → OfSlot w a r
+of-slot w (Some q) r e = record { q = q; pixel = refl; slot = cc }
+of-slot w None r e = absurd (let o : ◌≡◌ {A = ℕ} 0 1 = cc in omega arith)
 
-pub no_slot : (w : ℕ) (a : Place) → slot_in w a ≡ Nowhere → a ≡ Nowhere
-no_slot w (At q) e = absurd (let o : ◌≡◌ {A = ℕ} 0 1 = cc in omega arith)
-no_slot w Nowhere e = refl
+pub no_slot : (w : ℕ) (a : Option ℕ) → slot_in w a ≡ None → a ≡ None
+no_slot w (Some q) e = absurd (let o : ◌≡◌ {A = ℕ} 0 1 = cc in omega arith)
+no_slot w None e = refl

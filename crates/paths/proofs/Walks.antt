@@ -12,8 +12,7 @@ use lib.Ieee.{Float, nan, binary32, add}
 use Rattle.lists.proofs.Rows.{row_in}
 use Rattle.lists.proofs.Tests.{lt-or-le}
 use Rattle.paths.specs.declared.direction.Walk.{Walk}
-use Rattle.paths.specs.declared.direction.Place.{Place}
-use Rattle.paths.specs.declared.direction.Place.TheVariants.{At, Nowhere}
+use Rattle.std.specs.Prelude.{Option, None, Some}
 use Rattle.paths.specs.Path.{step_vec, add_vec}
 use Rattle.paths.specs.Room.{run, put}
 use Rattle.paths.specs.Walk.{previous_of, path_from, path_cells, slot_of, slot_path, path_within, path_at, joined, path_volume, pixels_in, cells_in, is_forward, Direction}
@@ -25,17 +24,17 @@ use Rattle.paths.proofs.Slots.{slot-in, slot-later}
 -- ---- the steps that count are enough
 
 module _ (k : Walk) (f g : ℕ → List Float) (cost : List Float) where
-  from-same : (a : Place) → ((q : ℕ) → a ≡ At q → f q ≡ g q) → path_from k f cost a ≡ path_from k g cost a
-  from-same (At q) e = ap (λ (r : List Float). step_vec k.p1 k.p2 r cost) (e q refl)
-  from-same Nowhere e = refl
+  from-same : (a : Option ℕ) → ((q : ℕ) → a ≡ Some q → f q ≡ g q) → path_from k f cost a ≡ path_from k g cost a
+  from-same (Some q) e = ap (λ (r : List Float). step_vec k.p1 k.p2 r cost) (e q refl)
+  from-same None e = refl
 
-  from_start : (a : Place) → ((q : ℕ) → a ≡ At q → ⊥) → path_from k f cost a ≡ cost
-  from_start (At q) e = absurd (e q refl)
-  from_start Nowhere e = refl
+  from_start : (a : Option ℕ) → ((q : ℕ) → a ≡ Some q → ⊥) → path_from k f cost a ≡ cost
+  from_start (Some q) e = absurd (e q refl)
+  from_start None e = refl
 
-length_from : (k : Walk) (f : ℕ → List Float) (cost : List Float) (a : Place) → length (path_from k f cost a) ≡ length cost
-length_from k f cost (At q) = length-step k.p1 k.p2 (f q) cost
-length_from k f cost Nowhere = refl
+length_from : (k : Walk) (f : ℕ → List Float) (cost : List Float) (a : Option ℕ) → length (path_from k f cost a) ≡ length cost
+length_from k f cost (Some q) = length-step k.p1 k.p2 (f q) cost
+length_from k f cost None = refl
 
 module _ (k : Walk) (c : List Float) (dir : Direction k.dx k.dy) where
   settled : (n p : ℕ) → p < pixels_in k → rank k p ≤ n → path_within k c (suc n) p ≡ path_within k c n p
@@ -52,11 +51,11 @@ module _ (k : Walk) (c : List Float) (dir : Direction k.dx k.dy) where
   path-unfolds p hp = sym (settled (pixels_in k) p hp (omega (arith, rank_below (is_forward k.dx k.dy) (pixels_in k) p hp)))
 
   -- THEOREM: at a path start L is the cost c
-  pub path-start : (p : ℕ) → p < pixels_in k → previous_of k p ≡ Nowhere → path_at k c p ≡ path_cells k.count c p
+  pub path-start : (p : ℕ) → p < pixels_in k → previous_of k p ≡ None → path_at k c p ≡ path_cells k.count c p
   path-start p hp e = path-unfolds p hp ∙ ap (path_from k (path_at k c) (path_cells k.count c p)) e
 
   -- THEOREM: else it is a step from L at the previous pixel
-  pub path-step : (p q : ℕ) → p < pixels_in k → previous_of k p ≡ At q → path_at k c p ≡ step_vec k.p1 k.p2 (path_at k c q) (path_cells k.count c p)
+  pub path-step : (p q : ℕ) → p < pixels_in k → previous_of k p ≡ Some q → path_at k c p ≡ step_vec k.p1 k.p2 (path_at k c q) (path_cells k.count c p)
   path-step p q hp e = path-unfolds p hp ∙ ap (path_from k (path_at k c) (path_cells k.count c p)) e
 
 -- ---- volumes, pixel by pixel
@@ -166,10 +165,6 @@ pub record Visited (k : Walk) (c s₀ l s : List Float) (t : ℕ) : Type 0 where
   pub kept : (p : ℕ) → p < pixels_in k → rank k p < t → t ≤ rank k p + 2 * k.w → path_cells k.count l (slot_of k.w p) ≡ path_at k c p
   pub summed : (p : ℕ) → p < pixels_in k → rank k p < t → path_cells k.count s p ≡ add_vec (path_cells k.count s₀ p) (path_at k c p)
   pub waiting : (p : ℕ) → p < pixels_in k → t ≤ rank k p → path_cells k.count s p ≡ path_cells k.count s₀ p
-
-pub visited-none : (k : Walk) (c s₀ l : List Float) → length l ≡ cells_in k → length s₀ ≡ cells_in k → Visited k c s₀ l s₀ 0
-visited-none k c s₀ l hl hs =
-    record { l-length = hl; s-length = hs; kept = λ p hp r near. absurd (omega arith); summed = λ p hp r. absurd (omega arith); waiting = λ p hp r. refl }
 
 -- one turn
 module _ {k : Walk} {c s₀ l s : List Float} {t : ℕ} (dir : Direction k.dx k.dy) (hc : length c ≡ cells_in k) (v : Visited k c s₀ l s t) (ht : t < pixels_in k)

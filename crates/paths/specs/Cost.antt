@@ -23,9 +23,9 @@ matching_cost (Corr v) = sub binary32 one v
 unfoldable pub matching_costs : ℕ → ℕ → List Float → List Float
 matching_costs area count volume = list_of (area * count) (λ i. matching_cost (raw_of (get_or volume (i % count * area + i / count) nan)))
 
--- those of n pixels from pixel p on, where the raw volume lies in v from cell raw on
-unfoldable pub costs_from : ℕ → ℕ → ℕ → ℕ → ℕ → List Float → List Float
-costs_from area count raw p n v = list_of (n * count) (λ i. matching_cost (raw_of (get_or v (raw + (i % count * area + (p + i / count))) nan)))
+-- those of n pixels from pixel p on
+unfoldable pub costs_from : ℕ → ℕ → ℕ → ℕ → List Float → List Float
+costs_from area count p n volume = list_of (n * count) (λ i. matching_cost (raw_of (get_or volume (i % count * area + (p + i / count)) nan)))
 
 -- index k of pixel p for the other picture: the cost with that index in the column first + k to the left in the same row, and blank's where the row has none
 unfoldable pub turned_cost : ℕ → ℤ → ℕ → List Float → ℕ → ℕ → Float
@@ -41,11 +41,11 @@ pub record Turnable (w count : ℕ) (first : ℤ) : Type 0 where
   pub count_most : count ≤ most_count
   pub first-most : nat_abs first ≤ first_most
 
--- index k of a pixel for the other picture, where the costs of its row lie in v from cell `row` on and its column is far - first_most + first: both columns are counted
+-- index k of a pixel for the other picture, where `row` has the costs of its row and its column is far - first_most + first: both columns are counted
 -- from so far to the left that neither is negative
-unfoldable pub turned_at : ℕ → ℕ → ℕ → ℕ → List Float → ℕ → Float
-turned_at w count row far v k = in_row two w (sub_ℕ far (first_most + k)) (λ x. get_or v (row + (x * count + k)) nan)
+unfoldable pub turned_at : ℕ → ℕ → ℕ → List Float → ℕ → Float
+turned_at w count far row k = in_row two w (sub_ℕ far (first_most + k)) (λ x. get_or row (x * count + k) nan)
 
 -- the cells of a row for the other picture, where first_most - first is `shift`
-unfoldable pub turned_row : ℕ → ℕ → ℕ → ℕ → List Float → List Float
-turned_row w count row shift v = list_of (w * count) (λ i. turned_at w count row (i / count + shift) v (i % count))
+unfoldable pub turned_row : ℕ → ℕ → ℕ → List Float → List Float
+turned_row w count shift row = list_of (w * count) (λ i. turned_at w count (i / count + shift) row (i % count))

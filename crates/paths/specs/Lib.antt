@@ -1,4 +1,4 @@
--- What the contracts of `paths` cite: `Cost` the matching cost, `Path` one pixel, `Walk` a picture, `Room` where it all lies, `Bounds` the ranges.
+-- What the contracts of `paths` cite: `Cost` the matching cost, `Path` one pixel, `Walk` a picture, `Room` runs of cells, `Bounds` the ranges.
 pub mod Cost
 pub mod Path
 pub mod Room

@@ -1,37 +1,35 @@
 -- The path costs of a picture. Pixel p is column p % w of row p / w; volumes are pixel-major, so that its `count` cells are the run from p * count
 -- (docs/SPECIFICATION.md, "Path costs"). Definitions only.
-use Rattle.std.specs.Prelude.{ℕ, zero, suc, ◌+◌, ◌*◌, ◌/◌, ◌%◌, ◌≡◌, Bool, true, false, cond, List, [], ◌∷◌, ◌++◌, ◌⊎◌, ℤ, pos, negsuc, ◌-ℤ◌, get_or, replicate, ltb, Float}
+use Rattle.std.specs.Prelude.{ℕ, zero, suc, ◌+◌, ◌*◌, ◌/◌, ◌%◌, ◌≡◌, Bool, true, false, cond, List, [], ◌∷◌, ◌++◌, ◌⊎◌, ℤ, pos, negsuc, ◌-ℤ◌, Option, None, Some, length, get_or, replicate, ltb, Float}
 use Rattle.std.specs.Float.{fin}
 use Rattle.paths.specs.declared.direction.Walk.{Walk}
-use Rattle.paths.specs.declared.direction.Place.{Place}
-use Rattle.paths.specs.declared.direction.Place.TheVariants.{At, Nowhere}
 use Rattle.paths.specs.Bounds.{UpTo, All}
 use Rattle.paths.specs.Path.{step_vec, add_vec}
 use Rattle.paths.specs.Room.{run}
 
 -- a whole number as a place on a line of n
-abbrev pub place_in : ℕ → ℤ → Place
-place_in n (pos x) = cond (ltb x n) (At x) Nowhere
-place_in n (negsuc x) = Nowhere
+abbrev pub place_in : ℕ → ℤ → Option ℕ
+place_in n (pos x) = cond (ltb x n) (Some x) None
+place_in n (negsuc x) = None
 
 -- the place one step before x on a line of n
-unfoldable pub step_back : ℕ → ℤ → ℕ → Place
+unfoldable pub step_back : ℕ → ℤ → ℕ → Option ℕ
 step_back n d x = place_in n (pos x -ℤ d)
 
 -- the pixel of a column and a row
-abbrev pub pixel_of : ℕ → Place → Place → Place
-pixel_of w (At x) (At y) = At (y * w + x)
-pixel_of w (At x) Nowhere = Nowhere
-pixel_of w Nowhere y = Nowhere
+abbrev pub pixel_of : ℕ → Option ℕ → Option ℕ → Option ℕ
+pixel_of w (Some x) (Some y) = Some (y * w + x)
+pixel_of w (Some x) None = None
+pixel_of w None y = None
 
 -- the previous pixel: one step of the direction back, and nowhere at a path start
-unfoldable pub previous_of : Walk → ℕ → Place
+unfoldable pub previous_of : Walk → ℕ → Option ℕ
 previous_of k p = pixel_of k.w (step_back k.w k.dx (p % k.w)) (step_back k.h k.dy (p / k.w))
 
 -- L at a pixel with matching costs `cost`, where L at pixel q is `path q`: the costs at a path start, else a step from the previous pixel
-abbrev pub path_from : Walk → (ℕ → List Float) → List Float → Place → List Float
-path_from k path cost Nowhere = cost
-path_from k path cost (At q) = step_vec k.p1 k.p2 (path q) cost
+abbrev pub path_from : Walk → (ℕ → List Float) → List Float → Option ℕ → List Float
+path_from k path cost None = cost
+path_from k path cost (Some q) = step_vec k.p1 k.p2 (path q) cost
 
 -- the cells of pixel p
 abbrev pub path_cells : ℕ → List Float → ℕ → List Float
@@ -51,9 +49,9 @@ unfoldable pub slot_of : ℕ → ℕ → ℕ
 slot_of w p = slot_row (p / w) * w + p % w
 
 -- the slot of a pixel that may be off the picture
-abbrev pub slot_in : ℕ → Place → Place
-slot_in w (At p) = At (slot_of w p)
-slot_in w Nowhere = Nowhere
+abbrev pub slot_in : ℕ → Option ℕ → Option ℕ
+slot_in w (Some p) = Some (slot_of w p)
+slot_in w None = None
 
 -- L at pixel p, where L at the previous pixel stands in its slot of l
 abbrev pub slot_path : Walk → List Float → List Float → ℕ → List Float
@@ -61,7 +59,7 @@ slot_path k l c p = path_from k (λ q. path_cells k.count l (slot_of k.w q)) (pa
 
 -- what stands in the slot of the pixel before p is known to be in the range of path costs
 abbrev pub SlotReady : Walk → List Float → ℕ → Type 0
-SlotReady k l p = (q : ℕ) → previous_of k p ≡ At q → All (UpTo 1027) (path_cells k.count l (slot_of k.w q))
+SlotReady k l p = (q : ℕ) → previous_of k p ≡ Some q → All (UpTo 1027) (path_cells k.count l (slot_of k.w q))
 
 -- how many pixels there are
 abbrev pub pixels_in : Walk → ℕ
@@ -70,6 +68,10 @@ pixels_in k = k.w * k.h
 -- how many cells a volume has
 abbrev pub cells_in : Walk → ℕ
 cells_in k = k.w * k.h * k.count
+
+-- the volumes of costs, of path costs and of sums have n cells each
+abbrev pub HaveCells : ℕ → List Float → List Float → List Float → Type 0
+HaveCells n costs paths sums = (length costs ≡ n) × (length paths ≡ n) × (length sums ≡ n)
 
 -- L at pixel p: no path has more steps than the picture has pixels (so `path-start` and `path-step` of proofs/Walks hold)
 unfoldable pub path_at : Walk → List Float → ℕ → List Float

@@ -1,36 +1,20 @@
 // The path costs of one pixel.
-ghost use Rattle.std.specs.Prelude.{◌≡◌, false, cond, ◌+◌, ◌-◌, ◌≤◌, ◌<◌, ltb, length, drop};
-ghost use Rattle.std.proofs.Math.Seq.{paste};
-ghost use Rattle.std.specs.Float.{inf};
+ghost use Rattle.std.specs.Prelude.{◌≡◌, ◌<◌, length};
 ghost use Rattle.paths.specs.Bounds.{UpTo, All};
 ghost use Rattle.paths.specs.Path.{least_of, best_of, path_cell, from_below, from_above, step_cell, step_vec, add_vec};
 ghost use Rattle.paths.specs.Room.{run, put, Runs};
 
 use numbers::plain::smaller;
 
-// Plus infinity, which no cost is above: the way that does not exist.
-fn infinity() -> f32
-    ensures { result ≡ inf false }
+// The least of the cells, found among their bit patterns: patterns of path costs stand in the order of the numbers, and of
+// whole numbers the compiler compares several at once.
+fn least_of(cells: &[f32]) -> f32
+    requires { All (UpTo 1027) cells.now }
+    ensures { result ≡ least_of cells.now }
 {
-    f32::from_bits(0x7F80_0000)
-}
-
-// The smaller of two bit patterns, and `a` where they are equal.
-fn lower(a: u32, b: u32) -> u32
-    ensures { result ≡ cond (ltb b a) b a }
-{
-    if b < a { b } else { a }
-}
-
-// The least of the `count` cells from `at`, found among their bit patterns: patterns of path costs stand in the order of
-// the numbers, and of whole numbers the compiler compares several at once. The first is plus infinity's.
-fn least_of_run(v: &[f32], at: usize, count: usize) -> f32
-    requires { (at + count ≤ length v.now) × All (UpTo 1027) (run count at v.now) }
-    ensures { result ≡ least_of (run count at v.now) }
-{
-    let mut lowest: u32 = 0x7F80_0000;
-    for k in 0..count {
-        lowest = lower(lowest, f32::to_bits(v[at + k]));
+    let mut lowest = f32::INFINITY.to_bits();
+    for cell in cells {
+        lowest = lowest.min(cell.to_bits());
     }
     f32::from_bits(lowest)
 }
@@ -43,112 +27,93 @@ fn path_cell(cost: f32, same: f32, below: f32, above: f32, jump: f32, least: f32
     (cost + best) - least
 }
 
-// The way from index k - 1 of the previous pixel.
-fn way_below(v: &[f32], prev: usize, count: usize, k: usize, p1: f32) -> f32
-    requires { (prev + count ≤ length v.now) × (k < count) }
-    ensures { result ≡ from_below p1 (run count prev v.now) k }
+// The way from index k - 1 of the previous pixel; plus infinity, which no way is above, where there is none.
+fn way_below(prev: &[f32], k: usize, p1: f32) -> f32
+    requires { k < length prev.now }
+    ensures { result ≡ from_below p1 prev.now k }
 {
     if k == 0 {
-        return infinity();
+        f32::INFINITY
+    } else {
+        prev[k - 1] + p1
     }
-    v[prev + (k - 1)] + p1
 }
 
-// The way from index k + 1 of the previous pixel.
-fn way_above(v: &[f32], prev: usize, count: usize, k: usize, p1: f32) -> f32
-    requires { (prev + count ≤ length v.now) × (k < count) }
-    ensures { result ≡ from_above p1 (run count prev v.now) k }
+// The way from index k + 1 of the previous pixel; plus infinity where there is none. The two stay apart: one index is counted down to 0,
+// the other up to the length, and the specification has a word for each.
+fn way_above(prev: &[f32], k: usize, p1: f32) -> f32
+    requires { k < length prev.now }
+    ensures { result ≡ from_above p1 prev.now k }
 {
-    if k + 1 < count {
-        return v[prev + (k + 1)] + p1;
+    if k + 1 < prev.len() {
+        prev[k + 1] + p1
+    } else {
+        f32::INFINITY
     }
-    infinity()
 }
 
 // The path cost of index k, whichever neighbours it has.
-fn path_end(
-    v: &[f32],
-    prev: usize,
-    cost: usize,
-    count: usize,
-    k: usize,
-    p1: f32,
-    p2: f32,
-    least: f32,
-) -> f32
-    requires count_in_bounds { (prev + count ≤ length v.now) × (cost + count ≤ length v.now) }
-    requires k_lt_count { (k < count) × (least ≡ least_of (run count prev v.now)) }
-    ensures { result ≡ step_cell p1 p2 (run count prev v.now) (run count cost v.now) k }
+fn path_end(prev: &[f32], cost: &[f32], k: usize, p1: f32, p2: f32, least: f32) -> f32
+    requires inside { (k < length prev.now) × (k < length cost.now) }
+    requires least { least ≡ least_of prev.now }
+    ensures { result ≡ step_cell p1 p2 prev.now cost.now k }
 {
-    let below = way_below(v, prev, count, k, p1);
-    let above = way_above(v, prev, count, k, p1);
-    path_cell(v[cost + k], v[prev + k], below, above, least + p2, least)
+    let below = way_below(prev, k, p1);
+    let above = way_above(prev, k, p1);
+    path_cell(cost[k], prev[k], below, above, least + p2, least)
 }
 
-// The path costs of the indices 1 to count - 2, which have both neighbours.
-fn path_inner(
-    v: &mut [f32],
-    prev: usize,
-    cost: usize,
-    at: usize,
-    count: usize,
-    p1: f32,
-    p2: f32,
-    least: f32,
-)
-    requires runs { Runs v.old prev at count × Runs v.old cost at count }
-    requires lt_count { (1 < count) × (least ≡ least_of (run count prev v.old)) }
-    ensures { v.new ≡ paste v.old (at + 1) (drop 1 (step_vec p1 p2 (run count prev v.old) (run count cost v.old))) (count - 2) }
+// The path costs of a pixel, from those of the previous one and the matching costs: the first, then those that have both
+// neighbours, then the last.
+fn path_pixel(prev: &[f32], cost: &[f32], path: &mut [f32], p1: f32, p2: f32)
+    requires lengths { (length prev.now ≡ length cost.now) × (length path.old ≡ length cost.now) }
+    requires some { 0 < length cost.now }
+    requires ranges { All (UpTo 1027) prev.now }
+    ensures { path.new ≡ step_vec p1 p2 prev.now cost.now }
 {
+    let least = least_of(prev);
     let jump = least + p2;
-    let end = count - 1;
-    for k in 1..end {
-        let below = v[prev + (k - 1)] + p1;
-        let above = v[prev + (k + 1)] + p1;
-        v[at + k] = path_cell(v[cost + k], v[prev + k], below, above, jump, least);
+    let last = cost.len() - 1;
+    path[0] = path_end(prev, cost, 0, p1, p2, least);
+    // By index: each cost reads three neighbours, and so the compiler makes several at once.
+    for k in 1..last {
+        let below = prev[k - 1] + p1;
+        let above = prev[k + 1] + p1;
+        path[k] = path_cell(cost[k], prev[k], below, above, jump, least);
+    }
+    path[last] = path_end(prev, cost, last, p1, p2, least);
+}
+
+// The path costs that go to the run from `at`, from those in the run from `from`.
+pub fn path_step(paths: &mut [f32], from: usize, at: usize, cost: &[f32], p1: f32, p2: f32)
+    requires runs { Runs paths.old from at (length cost.now) }
+    requires some { 0 < length cost.now }
+    requires ranges { All (UpTo 1027) (run (length cost.now) from paths.old) }
+    ensures { paths.new ≡ put paths.old at (step_vec p1 p2 (run (length cost.now) from paths.old) cost.now) }
+{
+    let count = cost.len();
+    if from < at {
+        let (before, rest) = paths.split_at_mut(at);
+        path_pixel(
+            &before[from..from + count],
+            cost,
+            &mut rest[..count],
+            p1,
+            p2,
+        );
+    } else {
+        let (before, rest) = paths.split_at_mut(from);
+        path_pixel(&rest[..count], cost, &mut before[at..at + count], p1, p2);
     }
 }
 
-// The path costs of the pixel at `at`, from those at `prev` and the matching costs at `cost`.
-pub fn path_pixel(
-    v: &mut [f32],
-    prev: usize,
-    cost: usize,
-    at: usize,
-    count: usize,
-    p1: f32,
-    p2: f32,
-)
-    requires runs { Runs v.old prev at count × Runs v.old cost at count }
-    requires count_nonzero { 0 < count }
-    requires all { All (UpTo 1027) (run count prev v.old) }
-    ensures { v.new ≡ put v.old at (step_vec p1 p2 (run count prev v.old) (run count cost v.old)) }
+// Adds a pixel's path costs to its sums.
+pub fn add_path(sums: &mut [f32], path: &[f32])
+    requires { length sums.old ≡ length path.now }
+    ensures { sums.new ≡ add_vec sums.old path.now }
 {
-    let least = least_of_run(v, prev, count);
-    v[at] = path_end(v, prev, cost, count, 0, p1, p2, least);
-    if 1 < count {
-        path_inner(v, prev, cost, at, count, p1, p2, least);
-        let last = count - 1;
-        v[at + last] = path_end(v, prev, cost, count, last, p1, p2, least);
-    }
-}
-
-// The path costs at a path start: the matching costs.
-pub fn path_start(v: &mut [f32], cost: usize, at: usize, count: usize)
-    requires { Runs v.old cost at count }
-    ensures { v.new ≡ put v.old at (run count cost v.old) }
-{
-    for k in 0..count {
-        v[at + k] = v[cost + k];
-    }
-}
-
-// Adds the path costs at `from` to the sums at `at`.
-pub fn add_path(v: &mut [f32], from: usize, at: usize, count: usize)
-    requires { Runs v.old from at count }
-    ensures { v.new ≡ put v.old at (add_vec (run count at v.old) (run count from v.old)) }
-{
-    for k in 0..count {
-        v[at + k] = v[at + k] + v[from + k];
+    // The path by index: what is written through `iter_mut` under `zip` is not known to a proof.
+    for (k, sum) in sums.iter_mut().enumerate() {
+        *sum += path[k];
     }
 }

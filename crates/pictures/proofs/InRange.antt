@@ -11,15 +11,15 @@ use Rattle.lists.specs.Rows.{level_at}
 use Rattle.options.specs.Limits.{side_most}
 use Rattle.options.proofs.Sides.{SideFits, side-fits}
 use Rattle.refusals.specs.Answered.{first_of}
-use Rattle.pictures.specs.declared.Sample.TheVariants as sample
+use Rattle.refusals.specs.Steps.{is}
 use Rattle.pictures.specs.Picture.{Bytes}
 use Rattle.numbers.specs.Operators.{◌⊕◌, ◌⊖◌, ◌⊗◌, float}
-use Rattle.pictures.specs.Bilinear.{one, clamped, place_of, blended, Readable, value_at, sample_of, most, ReadingRange}
+use Rattle.pictures.specs.Bilinear.{one, clamped, place_of, blended, value_at, sample_of, most, ReadingRange}
 use Rattle.pictures.specs.Bilinear as bilinear
 use Rattle.pictures.proofs.Values.{round-none, sub_at, Upto, upto-of-value}
 use Rattle.pictures.proofs.Places.{float-val, one-val, whole_is, side-upto}
 use Rattle.pictures.proofs.Shapes.{whole, level-small}
-use Rattle.pictures.proofs.Readings.{read_at}
+use Rattle.pictures.proofs.Readings.{Readable, read_at}
 use Rattle.pictures.proofs.Bounds.{parts, upto-round, upto-mul, upto_add, grid-value}
 
 -- ---- a share lies from 0 to 1
@@ -264,10 +264,10 @@ value-range pic w h xf yf b r =
     shares n t g i = share-upto (n - 1) (clamped t bilinear.plus_zero (float n ⊖ one)) (omega (arith, g.most)) (side-upto n t g i)
 
 -- ---- THEOREM: the range of what `bilinear` answers
-pub in-range : (pic : List ℕ) (w h : ℕ) (xf yf v : Float) → Bytes pic → sample_of pic w h xf yf ≡ sample.At v → ReadingRange v
+pub in-range : (pic : List ℕ) (w h : ℕ) (xf yf v : Float) → Bytes pic → sample_of pic w h xf yf ≡ is v → ReadingRange v
 in-range pic w h xf yf v b e = let a = read_at pic w h xf yf v e in subst ReadingRange a.value (value-range pic w h xf yf b a.reads)
 
 -- ---- THEOREM: it can be above 255, here by 2 ^ -45, of four pixels of the level 255
-pub above-255 : sample_of (255 ∷ 255 ∷ 255 ∷ 255 ∷ []) 2 2 (ieee.of_bits binary64 0x3fdf_cbbd_fd38_ac21) (ieee.of_bits binary64 0x3fdb_bc52_667e_0452) ≡ sample.At (fin false (255 * 2 ^ 45 + 1) (negsuc 44))
+pub above-255 : sample_of (255 ∷ 255 ∷ 255 ∷ 255 ∷ []) 2 2 (ieee.of_bits binary64 0x3fdf_cbbd_fd38_ac21) (ieee.of_bits binary64 0x3fdb_bc52_667e_0452) ≡ is (fin false (255 * 2 ^ 45 + 1) (negsuc 44))
 unfolding sample_of first_of value_at place_of clamped blended lt to_unsigned is_nan of_int ieee.of_bits ieee.add ieee.sub ieee.mul
 above-255 = refl

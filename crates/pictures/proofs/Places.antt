@@ -1,18 +1,18 @@
 -- A coordinate clamped to a side: it lies from zero to the last pixel, so its whole part and the next pixel do. Assumes nothing.
-use Rattle.std.proofs.Common.{◌≡◌, ℕ, ◌+◌, ◌-◌, ◌*◌, ◌/◌, ◌^◌, ◌<◌, ◌≤◌, Bool, true, false, cond, T, ltb, List, length, ℤ, pos, sym, refl, ap, ◌∙◌, subst, true≢false, le_trans, le_of_eq, mul-le-mul_right, zero-lt-suc, mul_comm, mul-one, mul_right_comm, le_of_mul-le-mul_right, arith, lit≤, le→leb, lt→ltb, ltb-false}
-use native.Mathlib.Nat.{div-le_of_le-mul, min-le_right}
-use lib.Ieee.{Float, nan, inf, fin, binary64, up, down, round, lt, of_int, in_float, to_unsigned, is_nan}
+use Rattle.std.proofs.Common.{◌≡◌, ℕ, ◌+◌, ◌-◌, ◌*◌, ◌/◌, ◌^◌, ◌<◌, ◌≤◌, Bool, true, false, cond, T, ltb, ℤ, pos, sym, refl, ap, ◌∙◌, subst, true≢false, le_trans, le_of_eq, mul-le-mul_right, zero-lt-suc, mul_comm, mul-one, mul_right_comm, le_of_mul-le-mul_right, arith, lit≤, le→leb, lt→ltb, ltb-false}
+use native.Mathlib.Nat.{div-le_of_le-mul}
+use lib.Ieee.{Float, nan, inf, fin, binary64, up, down, round, lt, le, of_int, in_float, to_unsigned, is_nan}
 use lib.Ieee.Exact.{HasValue}
 use lib.Ieee.Fits.{down_pos}
 use lib.Ieee.Back.{round_whole}
+use lib.Ieee.Order.{le_of_values}
+use Rattle.std.specs.Float.{float_clamp}
 use Rattle.numbers.proofs.Values.{above_minus_one, below_top, cut}
-use Rattle.options.proofs.Sides.{SideFits, side-fits}
-use Rattle.pictures.specs.declared.Place.{Place}
+use Rattle.options.proofs.Sides.{SideFits}
 use Rattle.numbers.specs.Operators.{◌⊖◌, float}
-use Rattle.pictures.specs.Bilinear.{one, clamped, place_of, Readable}
+use Rattle.pictures.specs.Bilinear.{one, clamped, place_of}
 use Rattle.pictures.specs.Bilinear as bilinear
-use Rattle.pictures.proofs.Shapes.{whole, byte-in}
-use Rattle.pictures.proofs.Values.{sub_at, Upto, upto-of-value}
+use Rattle.pictures.proofs.Values.{sub_at, lt_at, Upto, upto-of-value}
 
 -- ---- whole numbers as f64
 
@@ -35,6 +35,25 @@ last-val n g =
     (sym (sub_at binary64 n 1 1 1 (zero-lt-suc 0) (zero-lt-suc 0) (float n) one (float-val n (le_trans g.most (lit≤ tt))) one-val (omega (arith, g.least))
     ∙ ap (λ (k : ℕ). round binary64 false (k - 1) 1) (mul-one n)))
     (round_whole binary64 false (n - 1) (omega (arith, g.most)))
+
+pub zero-val : HasValue bilinear.plus_zero false 0 1
+zero-val = (refl, refl)
+
+-- ---- the ends of a side are in order, so std's clamp is the definition's
+module _ (n : ℕ) (g : SideFits n) where
+  pub in-order : T (le bilinear.plus_zero (float n ⊖ one))
+  in-order = le_of_values bilinear.plus_zero (float n ⊖ one) 0 1 (n - 1) 1 (zero-lt-suc 0) (zero-lt-suc 0) zero-val (last-val n g) (omega arith)
+
+  pub clamp-is : (t : Float) → float_clamp t bilinear.plus_zero (float n ⊖ one) ≡ clamped t bilinear.plus_zero (float n ⊖ one)
+  unfolding clamped
+  clamp-is t = go (lt t bilinear.plus_zero) (lt_at binary64 (n - 1) 1 0 1 (zero-lt-suc 0) (zero-lt-suc 0) (float n ⊖ one) bilinear.plus_zero (last-val n g) zero-val (omega arith))
+    where
+      hi : Float
+      hi = float n ⊖ one
+
+      go : (b : Bool) → lt hi bilinear.plus_zero ≡ false → cond b bilinear.plus_zero (cond (lt hi t) hi t) ≡ let y = cond b bilinear.plus_zero t in cond (lt hi y) hi y
+      go true e = rw e
+      go false e = refl
 
 -- ---- the clamped coordinate lies from zero to k, the upper end hi
 
@@ -121,31 +140,3 @@ whole_part k (fin false m e) h v = rw (whole_is k m e h v) (div-le_of_le-mul (do
 
 pub side-upto : (n : ℕ) (t : Float) → SideFits n → is_nan t ≡ false → Upto (clamped t bilinear.plus_zero (float n ⊖ one)) (n - 1) 1
 side-upto n t g h = clamped-upto (n - 1) t (float n ⊖ one) h (last-val n g)
-
-pub record On (n : ℕ) (p : Place) : Type 0 where
-  pub first-in : p.first < n
-  pub next-in : p.next < n
-
-on-side : (n : ℕ) (t : Float) → SideFits n → is_nan t ≡ false → On n (place_of n t)
-unfolding place_of
-on-side n t s h =
-    let c = clamped t bilinear.plus_zero (float n ⊖ one) in
-    record {
-      first-in = omega (arith, s.least, whole_part (n - 1) c (omega (arith, s.most)) (side-upto n t s h));
-      next-in = omega (arith, s.least, min-le_right (to_unsigned 64 c + 1) (n - 1));
-    }
-
--- both places of a reading, and what its pixels' bytes ask
-pub record PlacedIn (pic : List ℕ) (w h : ℕ) (x y : Place) : Type 0 where
-  pub across : On w x
-  pub down-in : On h y
-  pub byte : {i j : ℕ} → i < w → j < h → j * w + i < length pic
-
-pub placed : (pic : List ℕ) (w h : ℕ) (xf yf : Float) (x y : Place) → Readable pic w h xf yf → x ≡ place_of w xf → y ≡ place_of h yf → PlacedIn pic w h x y
-placed pic w h xf yf x y r p q =
-    let g = whole (length pic) w h r.good in
-    record {
-      across = rw p (on-side w xf (side-fits w g.wide) r.x-is);
-      down-in = rw q (on-side h yf (side-fits h g.high) r.y-is);
-      byte = λ {i} {j} a b. byte-in pic w h i j r.good a b;
-    }

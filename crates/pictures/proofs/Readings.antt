@@ -1,26 +1,22 @@
--- The test of a NaN, and what a reading that is not refused has. Assumes nothing.
-use Rattle.std.proofs.Common.{◌≡◌, ℕ, ◌*◌, true, false, ◌||◌, List, [], ◌∷◌, length, sym, refl, ap, ◌∙◌, lit<, eq-eqb}
-use lib.Ieee.{Float, nan, inf, fin, up, down, ne, is_nan}
+-- What a reading that is not refused has. Assumes nothing.
+use Rattle.std.proofs.Common.{◌≡◌, ℕ, false, ◌||◌, List, [], ◌∷◌, length, sym, ap, ◌∙◌, lit<}
+use lib.Ieee.{Float, is_nan}
 use Rattle.lists.proofs.Tests.{or-false}
 use Rattle.refusals.specs.Answered.{row, first_of}
 use Rattle.refusals.specs.Given.{number_back}
 use Rattle.refusals.proofs.Answering.{none_of}
 use Rattle.refusals.proofs.Groups.{by-rest, none-of-both}
-use Rattle.refusals.proofs.Outcomes.{number-back}
-use Rattle.pictures.specs.declared.Sample.TheVariants as sample
+use Rattle.refusals.specs.Steps.{is}
+use Rattle.refusals.proofs.Outcomes.{answer-number}
 use Rattle.pictures.specs.Picture.{shape_rows}
-use Rattle.pictures.specs.Bilinear.{Readable, value_at, reading_rows, sample_of}
-use Rattle.pictures.specs.Given.{sample_given}
+use Rattle.pictures.specs.Bilinear.{value_at, reading_rows, sample_of}
 use Rattle.pictures.proofs.Shapes.{shape-numbered}
 
--- a NaN is what differs from itself
-pub nan-test : (x : Float) → ne x x ≡ is_nan x
-unfolding ne is_nan
-nan-test nan = refl
-nan-test (inf true) = refl
-nan-test (inf false) = refl
-nan-test (fin true m e) = rw (eq-eqb (m * up e * down e) (m * up e * down e) refl)
-nan-test (fin false m e) = rw (eq-eqb (m * up e * down e) (m * up e * down e) refl)
+-- what a reading that is not refused has
+pub record Readable (pic : List ℕ) (w h : ℕ) (xf yf : Float) : Type 0 where
+  pub good : first_of (shape_rows (length pic) w h) ≡ 0
+  pub x-is : is_nan xf ≡ false
+  pub y-is : is_nan yf ≡ false
 
 module _ (pic : List ℕ) (w h : ℕ) (xf yf : Float) where
   -- a reading is not refused exactly where the picture is not, and neither coordinate is a NaN
@@ -39,9 +35,9 @@ module _ (pic : List ℕ) (w h : ℕ) (xf yf : Float) where
     pub reads : Readable pic w h xf yf
     pub value : value_at pic w h xf yf ≡ v
 
-  pub read_at : (v : Float) → sample_of pic w h xf yf ≡ sample.At v → ReadAt v
+  pub read_at : (v : Float) → sample_of pic w h xf yf ≡ is v → ReadAt v
   unfolding sample_of
   read_at v e =
-      let none = sym (number-back sample_given sample.Refused (sample.At (value_at pic w h xf yf)) (λ k. refl) refl (first_of (reading_rows (length pic) w h xf yf))) ∙ ap (λ r. number_back (sample_given r)) e in
-      let same : sample.At (value_at pic w h xf yf) ≡ sample.At v = rw none at e in
+      let none = sym (answer-number (value_at pic w h xf yf) (first_of (reading_rows (length pic) w h xf yf))) ∙ ap number_back e in
+      let same : is (value_at pic w h xf yf) ≡ is v = rw none at e in
       record { reads = readable none; value = cc }

@@ -1,5 +1,5 @@
 -- What a picture, and a pixel, that are not refused have, and a pixel's byte. Assumes nothing.
-use Rattle.std.proofs.Common.{◌≡◌, ℕ, ◌+◌, ◌*◌, ◌<◌, ◌≤◌, true, not, ◌&&◌, eqb, ltb, List, [], ◌∷◌, length, take, drop, sym, ◌∙◌, ⊎_elim, mul-le-mul, arith, lit<, length-take, w64, Fits, ltb-true, eqb-true}
+use Rattle.std.proofs.Common.{◌≡◌, ℕ, ◌+◌, ◌*◌, ◌<◌, ◌≤◌, true, not, ◌&&◌, eqb, ltb, List, [], ◌∷◌, length, take, drop, sym, ⊎_elim, mul-le-mul, arith, lit<, length-take, ltb-true, eqb-true}
 use lib.ListN.{get_or-eq_default}
 use borrow.Author.Tests.{not-false}
 use Rattle.lists.specs.Rows.{level_at}
@@ -16,8 +16,8 @@ pub shape-numbered : (bytes w h : ℕ) → Numbered (shape_rows bytes w h)
 shape-numbered bytes w h = (lit< tt, (lit< tt, tt))
 
 -- the picture's rows, which a caller has asked and found none
-pub shape-passed : (bytes w h n : ℕ) → n ≡ first_of (shape_rows bytes w h) → n ≡ 0 → NoneApplies (shape_rows bytes w h)
-shape-passed bytes w h n e none = none_of (shape_rows bytes w h) (shape-numbered bytes w h) (sym e ∙ none)
+pub shape_passed : (bytes w h : ℕ) → 0 ≡ first_of (shape_rows bytes w h) → NoneApplies (shape_rows bytes w h)
+shape_passed bytes w h none = none_of (shape_rows bytes w h) (shape-numbered bytes w h) (sym none)
 
 -- a picture that is not refused
 pub record Whole (bytes w h : ℕ) : Type 0 where
@@ -30,6 +30,16 @@ whole bytes w h none =
     let tests = none_of (shape_rows bytes w h) (shape-numbered bytes w h) none in
     let sides = and_both (is_side w) (is_side h) (not-false (is_side w && is_side h) tests.0) in
     record { wide = sides.0; high = sides.1; full = eqb-true bytes (w * h) (not-false (eqb bytes (w * h)) tests.1.0) }
+
+-- so its sides are in their range
+pub is_wide : (bytes w h : ℕ) → first_of (shape_rows bytes w h) ≡ 0 → is_side w ≡ true
+is_wide bytes w h none = (whole bytes w h none).wide
+
+pub is_high : (bytes w h : ℕ) → first_of (shape_rows bytes w h) ≡ 0 → is_side h ≡ true
+is_high bytes w h none = (whole bytes w h none).high
+
+-- both, for the search
+pub ruleset sides = (is_wide, is_high)
 
 -- a pixel that is not refused
 pub record Inside (bytes w h x y : ℕ) : Type 0 where
@@ -45,10 +55,10 @@ inside bytes w h x y none =
     record { good = groups.0; x-in = ltb-true x w both.0; y-in = ltb-true y h both.1 }
 
 -- there are few enough pixels to count
-pub pixels-fit : (w h : ℕ) → is_side w ≡ true → is_side h ≡ true → Fits w64 (w * h)
-pixels-fit w h p q =
-    let b : w * h ≤ side_most * side_most = mul-le-mul (side-fits w p).most (side-fits h q).most in
-    record { fits = omega arith }
+pub few : (pic : List ℕ) (w h : ℕ) → first_of (shape_rows (length pic) w h) ≡ 0 → length pic ≤ side_most * side_most
+few pic w h good =
+    let s = whole (length pic) w h good in
+    omega (arith, s.full, mul-le-mul (side-fits w s.wide).most (side-fits h s.high).most)
 
 -- ---- a pixel's byte
 

@@ -10,22 +10,17 @@ use Rattle.lists.specs.Rows.{level_at}
 use Rattle.options.proofs.Sides.{SideFits, side-fits}
 use Rattle.refusals.specs.Answered.{first_of}
 use Rattle.refusals.specs.Given.{number_back}
-use Rattle.refusals.proofs.Outcomes.{number-back}
-use Rattle.pictures.specs.declared.Level.TheVariants as level
-use Rattle.pictures.specs.declared.Sample.TheVariants as sample
+use Rattle.refusals.specs.Steps.{is}
+use Rattle.refusals.proofs.Outcomes.{answer-number}
 use Rattle.pictures.specs.Picture.{Bytes, level_rows, pixel_of}
 use Rattle.numbers.specs.Operators.{◌⊕◌, ◌⊖◌, ◌⊗◌, float}
 use Rattle.pictures.specs.Bilinear.{one, plus_zero, clamped, place_of, blended, value_at, sample_of, WholeAt, plain, minus-zero}
-use Rattle.pictures.specs.Given.{level_given}
 use Rattle.pictures.proofs.Shapes.{whole, Inside, inside, level-small}
 use Rattle.pictures.proofs.Readings.{reading-none}
 use Rattle.pictures.proofs.Values.{round-none, mul_at, add_at, sub_at, lt_at}
-use Rattle.pictures.proofs.Places.{counted, float-val, one-val, last-val}
+use Rattle.pictures.proofs.Places.{counted, float-val, one-val, zero-val, last-val}
 
 -- ---- whole numbers up to 2 ^ 53, as f64
-
-zero_val : HasValue plus_zero false 0 1
-zero_val = (refl, refl)
 
 -- zero with either sign
 abbrev zeroed : Bool → Float
@@ -59,10 +54,10 @@ valued-times (fin false m e) a c s v =
 
 valued-plus : (n : ℕ) (s : Bool) → n ≤ 2 ^ 53 → float n ⊕ zeroed s ≡ float n
 valued-plus n false h =
-    add_at binary64 n 1 0 1 (zero-lt-suc 0) (zero-lt-suc 0) (float n) plus_zero (float-val n h) zero_val ∙ ap (λ (k : ℕ). round binary64 false k 1) (omega arith) ∙ sym (float_is n h)
+    add_at binary64 n 1 0 1 (zero-lt-suc 0) (zero-lt-suc 0) (float n) plus_zero (float-val n h) zero-val ∙ ap (λ (k : ℕ). round binary64 false k 1) (omega arith) ∙ sym (float_is n h)
 valued-plus n true h =
     let e : float n ⊕ zeroed true ≡ float n ⊖ plus_zero = unfold ieee.sub in unfold ieee.neg in refl in
-    e ∙ sub_at binary64 n 1 0 1 (zero-lt-suc 0) (zero-lt-suc 0) (float n) plus_zero (float-val n h) zero_val (omega arith) ∙ ap (λ (k : ℕ). round binary64 false k 1) (omega arith) ∙ sym (float_is n h)
+    e ∙ sub_at binary64 n 1 0 1 (zero-lt-suc 0) (zero-lt-suc 0) (float n) plus_zero (float-val n h) zero-val (omega arith) ∙ ap (λ (k : ℕ). round binary64 false k 1) (omega arith) ∙ sym (float_is n h)
 
 -- with no share of the next pixels, the first one's level
 corner : (a b c d : ℕ) (s t : Bool) → a ≤ 2 ^ 53 → b ≤ 2 ^ 53 → c ≤ 2 ^ 53 → d ≤ 2 ^ 53 → blended (float a) (float b) (float c) (float d) (zeroed s) (zeroed t) ≡ float a
@@ -111,7 +106,7 @@ module _ (n x : ℕ) (g : SideFits n) (i : x < n) where
   unfolding clamped
   whole-clamped =
       rw (
-        lt_at binary64 x 1 0 1 (zero-lt-suc 0) (zero-lt-suc 0) (float x) plus_zero (float-val x small) zero_val (omega arith),
+        lt_at binary64 x 1 0 1 (zero-lt-suc 0) (zero-lt-suc 0) (float x) plus_zero (float-val x small) zero-val (omega arith),
         lt_at binary64 (n - 1) 1 x 1 (zero-lt-suc 0) (zero-lt-suc 0) (float n ⊖ one) (float x) (last-val n g) (float-val x small) (omega arith),
       )
 
@@ -158,15 +153,15 @@ whole-value pic w h x y xf yf b g k i j u v =
     held i j = le_trans (le_of_lt (level-small pic w i j b)) (lit≤ tt)
 
 -- what a level that `pixel` gives says of the shape and the pixel
-pub pixel-inside-is : (pic : List ℕ) (w h x y l : ℕ) → pixel_of pic w h x y ≡ level.At l → Inside (length pic) w h x y × (level_at w pic x y ≡ l)
+pub pixel-inside-is : (pic : List ℕ) (w h x y l : ℕ) → pixel_of pic w h x y ≡ is l → Inside (length pic) w h x y × (level_at w pic x y ≡ l)
 unfolding pixel_of
 pixel-inside-is pic w h x y l e =
-    let none = sym (number-back level_given level.Refused (level.At (level_at w pic x y)) (λ k. refl) refl (first_of (level_rows (length pic) w h x y))) ∙ ap (λ r. number_back (level_given r)) e in
-    let same : level.At (level_at w pic x y) ≡ level.At l = rw none at e in
+    let none = sym (answer-number (level_at w pic x y) (first_of (level_rows (length pic) w h x y))) ∙ ap number_back e in
+    let same : is (level_at w pic x y) ≡ is l = rw none at e in
     (inside (length pic) w h x y none, cc)
 
 -- ---- THEOREM
-pub whole-reading : (pic : List ℕ) (w h x y l : ℕ) (xf yf : Float) → Bytes pic → WholeAt xf x → WholeAt yf y → pixel_of pic w h x y ≡ level.At l → sample_of pic w h xf yf ≡ sample.At (float l)
+pub whole-reading : (pic : List ℕ) (w h x y l : ℕ) (xf yf : Float) → Bytes pic → WholeAt xf x → WholeAt yf y → pixel_of pic w h x y ≡ is l → sample_of pic w h xf yf ≡ is (float l)
 unfolding sample_of
 whole-reading pic w h x y l xf yf b u v e =
     let p = pixel-inside-is pic w h x y l e in

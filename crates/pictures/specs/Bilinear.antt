@@ -1,14 +1,13 @@
 -- A grey picture read between its pixels, step by step as the Rust has it, each operation in binary64
 -- (docs/SPECIFICATION.md, "Grey picture"). Definitions only.
-use Rattle.std.specs.Prelude.{◌≡◌, ℕ, ◌+◌, ◌-◌, ◌*◌, ◌^◌, min, true, false, cond, ◌||◌, T, List, [], ◌∷◌, ◌++◌, length, pos, negsuc, is_nan, Float}
+use Rattle.std.specs.Prelude.{ℕ, ◌+◌, ◌-◌, ◌*◌, ◌^◌, min, true, false, cond, ◌||◌, T, List, [], ◌∷◌, ◌++◌, length, pos, negsuc, is_nan, Float}
 use Rattle.std.specs.Float.{fin}
 use Rattle.std.specs.Float.Ieee.{lt, le, to_unsigned}
 use Rattle.lists.specs.Rows.{level_at}
 use Rattle.numbers.specs.Operators.{◌⊕◌, ◌⊖◌, ◌⊗◌, float}
 use Rattle.refusals.specs.Answered.{Row, row, first_of}
+use Rattle.refusals.specs.Steps.{Or}
 use Rattle.refusals.specs.Outcome.{answer_for}
-use Rattle.pictures.specs.declared.Sample.{Sample}
-use Rattle.pictures.specs.declared.Sample.TheVariants as sample
 use Rattle.pictures.specs.declared.Place.{Place}
 use Rattle.pictures.specs.Picture.{shape_rows}
 
@@ -46,19 +45,13 @@ value_at pic w h xf yf =
     let p : ℕ → ℕ → Float = λ (i j : ℕ). float (level_at w pic i j) in
     blended (p x.first y.first) (p x.next y.first) (p x.first y.next) (p x.next y.next) x.share y.share
 
--- what such a reading asks
-pub record Readable (pic : List ℕ) (w h : ℕ) (xf yf : Float) : Type 0 where
-  pub good : first_of (shape_rows (length pic) w h) ≡ 0
-  pub x-is : is_nan xf ≡ false
-  pub y-is : is_nan yf ≡ false
-
 -- of a reading: after the picture's rows 25 a coordinate is a NaN
 abbrev pub reading_rows : ℕ → ℕ → ℕ → Float → Float → List Row
 reading_rows bytes w h xf yf = shape_rows bytes w h ++ (row 25 (is_nan xf || is_nan yf) ∷ [])
 
 -- what `bilinear` answers
-unfoldable pub sample_of : List ℕ → ℕ → ℕ → Float → Float → Sample
-sample_of pic w h xf yf = answer_for (first_of (reading_rows (length pic) w h xf yf)) sample.Refused (sample.At (value_at pic w h xf yf))
+unfoldable pub sample_of : List ℕ → ℕ → ℕ → Float → Float → Or Float
+sample_of pic w h xf yf = answer_for (first_of (reading_rows (length pic) w h xf yf)) (value_at pic w h xf yf)
 
 -- a coordinate that is the whole number x; minus zero is zero
 pub data WholeAt : Float → ℕ → Type 0 where

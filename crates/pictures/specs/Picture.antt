@@ -4,9 +4,8 @@ use Rattle.std.specs.Prelude.{ℕ, ◌*◌, ◌<◌, not, ◌&&◌, List, [], �
 use Rattle.lists.specs.Rows.{level_at}
 use Rattle.options.specs.Limits.{is_side}
 use Rattle.refusals.specs.Answered.{Row, row, first_of}
+use Rattle.refusals.specs.Steps.{Or}
 use Rattle.refusals.specs.Outcome.{answer_for}
-use Rattle.pictures.specs.declared.Level.{Level}
-use Rattle.pictures.specs.declared.Level.TheVariants as level
 
 -- each number of the list is a byte
 abbrev pub Bytes : List ℕ → Type 0
@@ -21,5 +20,5 @@ abbrev pub level_rows : ℕ → ℕ → ℕ → ℕ → ℕ → List Row
 level_rows bytes w h x y = shape_rows bytes w h ++ (row 26 (not (nat_lt x w && nat_lt y h)) ∷ [])
 
 -- what `pixel` answers
-unfoldable pub pixel_of : List ℕ → ℕ → ℕ → ℕ → ℕ → Level
-pixel_of pic w h x y = answer_for (first_of (level_rows (length pic) w h x y)) level.Refused (level.At (level_at w pic x y))
+unfoldable pub pixel_of : List ℕ → ℕ → ℕ → ℕ → ℕ → Or ℕ
+pixel_of pic w h x y = answer_for (first_of (level_rows (length pic) w h x y)) (level_at w pic x y)

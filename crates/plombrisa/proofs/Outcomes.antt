@@ -2,18 +2,18 @@
 use Prim.Native.Nat.{ℕ}
 use mathlib.Core.Path.{◌≡◌}
 use mathlib.Core.Bool.{Bool}
-use mathlib.Core.Option.{Option}
+use Rattle.std.specs.Prelude.{Option}
 use mathlib.Core.List.{List}
 use lib.Ieee.{Float}
 use Rattle.refusals.specs.Steps.{Or}
 use Rattle.refusals.proofs.Outcomes.{same_outcome}
 use Rattle.points.specs.declared.Intrinsics.{Intrinsics}
 use Rattle.points.specs.declared.PointRecord.{PointRecord}
-use Rattle.points.specs.Given.{Coordinates}
+use Rattle.points.specs.declared.Point3.{Point3}
 use Rattle.sheets.specs.Sheet.{Sheet}
 use Rattle.sheets.specs.Given.{SheetIs}
 use Rattle.netpbm.specs.Raster.{Raster}
-use Rattle.netpbm.specs.Given.{Sides}
+use Rattle.netpbm.specs.declared.raster.Size.{Size}
 use Rattle.options.specs.declared.BlockMatchOptions.{BlockMatchOptions}
 use Rattle.calls.specs.declared.Call.{Call}
 use Rattle.volume.specs.declared.site.Site.{Site}
@@ -27,7 +27,7 @@ pub one_told : {A : Type 0} {answer : Or A} {lent : A} {n m : ℕ} {lent₁ lent
 one_told x y = (same_outcome x.number y.number, same_outcome x.value y.value)
 
 -- THEOREM: of the point of a pixel and a disparity
-pub one-point : {p : Option Coordinates} {lent : Coordinates} {there there' : Bool} {lent₁ lent₂ : Coordinates}
+pub one-point : {p : Option Point3} {lent : Point3} {there there' : Bool} {lent₁ lent₂ : Point3}
     → HostPoint there p lent lent₁ → HostPoint there' p lent lent₂ → (there ≡ there') × (lent₁ ≡ lent₂)
 one-point x y = (same_outcome x.answer y.answer, same_outcome x.value y.value)
 
@@ -47,7 +47,7 @@ pub one-read : {sheet : Or Sheet} {out : List Float} {lent : SheetIs} {n m : ℕ
 one-read x y = (one_told x.told y.told, same_outcome x.outs y.outs)
 
 -- THEOREM: of a picture or a map that is read
-pub one-raster : {A : Type 0} {raster : Or (Raster A)} {out : List A} {lent : Sides} {n m : ℕ} {out₁ out₂ : List A} {lent₁ lent₂ : Sides}
+pub one-raster : {A : Type 0} {raster : Or (Raster A)} {out : List A} {lent : Size} {n m : ℕ} {out₁ out₂ : List A} {lent₁ lent₂ : Size}
     → HostRaster n raster out out₁ lent lent₁ → HostRaster m raster out out₂ lent lent₂ → ((n ≡ m) × (lent₁ ≡ lent₂)) × (out₁ ≡ out₂)
 one-raster x y = (one_told x.told y.told, same_outcome x.outs y.outs)
 

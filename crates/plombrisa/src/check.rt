@@ -32,11 +32,13 @@ pub extern "C" fn plombrisa_check_vendor(
 ) -> u32
     ensures { HostCheck result (vendor_call left.now left_width left_height right.now right_width right_height (check_options min_disparity num_disparities block_size min_correlation) (length whole_room.old)) (check_options min_disparity num_disparities block_size min_correlation) left.now right.now map_width map_height map.now whole_room.old whole_room.new (verdict_in passed.old x.old y.old) (verdict_in passed.new x.new y.new) }
 {
-    let mut opts = BlockMatchOptions::defaults();
-    opts.min_disparity = min_disparity;
-    opts.num_disparities = num_disparities;
-    opts.block_size = block_size;
-    opts.min_correlation = min_correlation;
+    let opts = BlockMatchOptions {
+        min_disparity,
+        num_disparities,
+        block_size,
+        min_correlation,
+        ..BlockMatchOptions::defaults()
+    };
     let verdict = check_vendor(
         left,
         left_width,

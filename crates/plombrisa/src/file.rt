@@ -1,13 +1,11 @@
 // PGM pictures read, PFM maps written and read, for hosts: 0, or the number of the refusal, which leaves what is lent as it was.
 ghost use Rattle.refusals.specs.Writes.{byte_count};
-ghost use Rattle.refusals.specs.Given.{written_given};
 ghost use Rattle.netpbm.specs.Pgm.{read_pgm};
 ghost use Rattle.netpbm.specs.Pfm.{pfm_of, read_pfm};
 ghost use Rattle.netpbm.specs.Outcome.{size_of};
-ghost use Rattle.netpbm.specs.Given.{size_given};
 ghost use Rattle.plombrisa.specs.Host.{HostTold, sides_in, HostWritten, HostRaster};
 
-use crate::told::{tell_bytes, tell_size};
+use crate::told::{tell_count, tell_size};
 use netpbm::pfm::{pfm_size, read_pfm};
 use netpbm::pgm::{pgm_size, read_pgm};
 use netpbm::writing::{pfm_length, write_pfm};
@@ -15,7 +13,7 @@ use netpbm::writing::{pfm_length, write_pfm};
 // The size of a PGM picture, without its levels.
 #[unsafe(no_mangle)]
 pub extern "C" fn plombrisa_pgm_size(file: &[u8], width: &mut u64, height: &mut u64) -> u32
-    ensures { HostTold result (size_given (size_of (read_pgm file.now))) (sides_in width.old height.old) (sides_in width.new height.new) }
+    ensures { HostTold result (size_of (read_pgm file.now)) (sides_in width.old height.old) (sides_in width.new height.new) }
 {
     tell_size(pgm_size(file), width, height)
 }
@@ -41,9 +39,9 @@ pub extern "C" fn plombrisa_pfm_length(
     height: usize,
     count: &mut u64,
 ) -> u32
-    ensures { HostTold result (written_given (byte_count (pfm_of width height cells.now))) count.old count.new }
+    ensures { HostTold result (byte_count (pfm_of width height cells.now)) count.old count.new }
 {
-    tell_bytes(pfm_length(cells, width, height), count)
+    tell_count(pfm_length(cells, width, height), count)
 }
 
 // Writes the PFM file of a map at the front of `out`, with its byte count in the lent number; bytes beyond it are left as they were.
@@ -57,13 +55,13 @@ pub extern "C" fn plombrisa_write_pfm(
 ) -> u32
     ensures { HostWritten 45 result (pfm_of width height cells.now) out.old out.new count.old count.new }
 {
-    tell_bytes(write_pfm(cells, width, height, out), count)
+    tell_count(write_pfm(cells, width, height, out), count)
 }
 
 // The size of a PFM map, without its cells.
 #[unsafe(no_mangle)]
 pub extern "C" fn plombrisa_pfm_size(file: &[u8], width: &mut u64, height: &mut u64) -> u32
-    ensures { HostTold result (size_given (size_of (read_pfm file.now))) (sides_in width.old height.old) (sides_in width.new height.new) }
+    ensures { HostTold result (size_of (read_pfm file.now)) (sides_in width.old height.old) (sides_in width.new height.new) }
 {
     tell_size(pfm_size(file), width, height)
 }

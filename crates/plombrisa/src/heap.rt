@@ -1,6 +1,5 @@
 // The volume of a heap of points, for hosts: 0, or the number of the refusal, which leaves what is lent as it was.
 ghost use Rattle.volume.specs.Outcome.{grid_shape};
-ghost use Rattle.volume.specs.Given.{shape_given};
 ghost use Rattle.plombrisa.specs.Host.{HostTold, grid_in, figures_in, HostHeap};
 ghost use Rattle.plombrisa.specs.Options.{site_of};
 
@@ -20,7 +19,7 @@ pub extern "C" fn plombrisa_heap_shape(
     columns: &mut u64,
     rows: &mut u64,
 ) -> u32
-    ensures { HostTold result (shape_given (grid_shape (site_of left right top bottom cell floor))) (grid_in columns.old rows.old) (grid_in columns.new rows.new) }
+    ensures { HostTold result (grid_shape (site_of left right top bottom cell floor)) (grid_in columns.old rows.old) (grid_in columns.new rows.new) }
 {
     let site = Site {
         left,

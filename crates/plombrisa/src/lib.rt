@@ -17,6 +17,7 @@ ghost use Rattle.costs.specs.Outcome.{raw_call, RawOutcome};
 ghost use Rattle.matching.specs.Outcome.{match_call, MatchOutcome};
 ghost use Rattle.plombrisa.specs.Options.{side_of, raw_options, match_options};
 
+use crate::told::number;
 use costs::raw_volume;
 use matching::match_block;
 use options::{BlockMatchOptions, Mode, Side};
@@ -60,7 +61,7 @@ pub extern "C" fn plombrisa_match_block(
         sgm_p1,
         sgm_p2,
     };
-    match_block(
+    number(match_block(
         left,
         left_width,
         left_height,
@@ -71,10 +72,10 @@ pub extern "C" fn plombrisa_match_block(
         out,
         whole_room,
         float_room,
-    )
+    ))
 }
 
-// Which picture is the reference.
+// Which picture is the reference. No `From<bool>`: it would not say which is which.
 fn side_of(from_right: bool) -> Side
     ensures { result ≡ side_of from_right }
 {
@@ -99,11 +100,13 @@ pub extern "C" fn plombrisa_raw_volume(
 ) -> u32
     ensures { RawOutcome result (raw_call left.now left_width left_height right.now right_width right_height (raw_options min_disparity num_disparities block_size) (length out.old) (length whole_room.old)) (side_of from_right) left.now right.now out.old out.new whole_room.old whole_room.new }
 {
-    let mut opts = BlockMatchOptions::defaults();
-    opts.min_disparity = min_disparity;
-    opts.num_disparities = num_disparities;
-    opts.block_size = block_size;
-    raw_volume(
+    let opts = BlockMatchOptions {
+        min_disparity,
+        num_disparities,
+        block_size,
+        ..BlockMatchOptions::defaults()
+    };
+    number(raw_volume(
         left,
         left_width,
         left_height,
@@ -114,5 +117,5 @@ pub extern "C" fn plombrisa_raw_volume(
         side_of(from_right),
         out,
         whole_room,
-    )
+    ))
 }

@@ -1,10 +1,11 @@
 // The point of a pixel and a disparity, and the list of a map's points, for hosts.
 ghost use Rattle.points.specs.Point.{point_of};
-ghost use Rattle.points.specs.Given.{point_given, filled_given};
-ghost use Rattle.plombrisa.specs.Host.{HostTold, point_in, HostPoint, HostPoints};
+ghost use Rattle.plombrisa.specs.Host.{point_in, HostPoint, HostPoints};
 ghost use Rattle.plombrisa.specs.Options.{intrinsics_of};
 
-use points::{Filled, Intrinsics, Point3, PointRecord, points, rectified_point};
+use crate::told::tell_count;
+use maps::MapView;
+use points::{Intrinsics, PointRecord, points};
 
 // Whether there is a point; where there is none, what is lent is left as it was. The intrinsics are taken as they are.
 #[unsafe(no_mangle)]
@@ -21,7 +22,7 @@ pub extern "C" fn plombrisa_rectified_point(
     py: &mut f64,
     pz: &mut f64,
 ) -> bool
-    ensures { HostPoint result (point_given (point_of (intrinsics_of fx fy cx cy baseline) x y disparity)) (point_in px.old py.old pz.old) (point_in px.new py.new pz.new) }
+    ensures { HostPoint result (point_of (intrinsics_of fx fy cx cy baseline) x y disparity) (point_in px.old py.old pz.old) (point_in px.new py.new pz.new) }
 {
     let k = Intrinsics {
         fx,
@@ -30,28 +31,13 @@ pub extern "C" fn plombrisa_rectified_point(
         cy,
         baseline,
     };
-    match rectified_point(k, x, y, disparity) {
-        Point3::None => false,
-        Point3::At(u, v, w) => {
-            *px = u;
-            *py = v;
-            *pz = w;
-            true
-        }
-    }
-}
-
-// What an answer says, with the number of records in the lent number.
-fn tell_filled(answer: Filled, count: &mut u64) -> u32
-    ensures { HostTold result (filled_given answer) count.old count.new }
-{
-    match answer {
-        Filled::Refused(n) => n as u32,
-        Filled::Written(v) => {
-            *count = v as u64;
-            0
-        }
-    }
+    let Some(point) = k.rectified_point(x, y, disparity) else {
+        return false;
+    };
+    *px = point.x;
+    *py = point.y;
+    *pz = point.z;
+    true
 }
 
 // Writes the record of each cell that gives a point, rows first; records beyond them are left as they were. 0, or the number of
@@ -78,5 +64,5 @@ pub extern "C" fn plombrisa_points(
         cy,
         baseline,
     };
-    tell_filled(points(list, width, height, cells, k), count)
+    tell_count(points(list, MapView::new(width, height, cells), k), count)
 }

@@ -3,7 +3,8 @@ ghost use Rattle.std.specs.Prelude.{◌≡◌};
 ghost use Rattle.rows.specs.Index.{FreshOutcome, EditOutcome};
 ghost use Rattle.plombrisa.specs.Options.{edit_of};
 
-use maps::Cell;
+use crate::told::number;
+use maps::{Cell, MapView};
 use rows::{Edit, RowRecord, edit_cell, fresh_index};
 
 // Works out the record of each row.
@@ -16,15 +17,18 @@ pub extern "C" fn plombrisa_fresh_index(
 ) -> u32
     ensures { FreshOutcome result width height cells.now index.old index.new }
 {
-    fresh_index(index, width, height, cells)
+    number(fresh_index(index, MapView::new(width, height, cells)))
 }
 
 // The edit of a pixel to a number, whose NaN is the mark.
 fn edit_of(x: usize, y: usize, value: f32) -> Edit
     ensures { result ≡ edit_of x y value }
 {
-    let value = Cell::of_cell(value);
-    Edit { x, y, value }
+    Edit {
+        x,
+        y,
+        value: Cell::from(value),
+    }
 }
 
 // Edits one cell, and the record of its row with it.
@@ -41,5 +45,5 @@ pub extern "C" fn plombrisa_edit_cell(
     ensures { EditOutcome result width height (edit_of x y value) cells.old cells.new index.old index.new }
 {
     let edit = edit_of(x, y, value);
-    edit_cell(index, width, height, cells, edit)
+    number(edit_cell(index, width, height, cells, edit))
 }

@@ -2,13 +2,12 @@
 // its number.
 ghost use Rattle.sheets.specs.Sheet.{sheet_of, read_sheet};
 ghost use Rattle.refusals.specs.Writes.{byte_count};
-ghost use Rattle.refusals.specs.Given.{written_given};
 ghost use Rattle.sheets.specs.Outcome.{size_said};
 ghost use Rattle.sheets.specs.Given.{said_given};
 ghost use Rattle.plombrisa.specs.Host.{HostTold, sheet_in, HostWritten, HostSheet};
 
-use crate::told::tell_bytes;
-use sheets::reading::{Said, read_sheet, sheet_size};
+use crate::told::{tell_count, tell_sheet};
+use sheets::reading::{read_sheet, sheet_size};
 use sheets::writing::{sheet_length, write_sheet};
 
 // How many bytes the sheet of a map takes.
@@ -20,9 +19,9 @@ pub extern "C" fn plombrisa_sheet_length(
     kind: u64,
     count: &mut u64,
 ) -> u32
-    ensures { HostTold result (written_given (byte_count (sheet_of kind width height cells.now))) count.old count.new }
+    ensures { HostTold result (byte_count (sheet_of kind width height cells.now)) count.old count.new }
 {
-    tell_bytes(sheet_length(cells, width, height, kind), count)
+    tell_count(sheet_length(cells, width, height, kind), count)
 }
 
 // Writes the sheet of a map at the front of `out`, with its byte count in the lent number; bytes beyond it are left as they were.
@@ -37,22 +36,7 @@ pub extern "C" fn plombrisa_write_sheet(
 ) -> u32
     ensures { HostWritten 33 result (sheet_of kind width height cells.now) out.old out.new count.old count.new }
 {
-    tell_bytes(write_sheet(cells, width, height, kind, out), count)
-}
-
-// What an answer says, with kind, width and height in the lent numbers.
-fn tell_said(answer: Said, kind: &mut u64, width: &mut u64, height: &mut u64) -> u32
-    ensures { HostTold result (said_given answer) (sheet_in kind.old width.old height.old) (sheet_in kind.new width.new height.new) }
-{
-    match answer {
-        Said::Refused(n) => n as u32,
-        Said::Map(k, w, h) => {
-            *kind = k.number();
-            *width = w as u64;
-            *height = h as u64;
-            0
-        }
-    }
+    tell_count(write_sheet(cells, width, height, kind, out), count)
 }
 
 // What a sheet is, without its cells: kind, width and height.
@@ -65,7 +49,7 @@ pub extern "C" fn plombrisa_sheet_size(
 ) -> u32
     ensures { HostTold result (said_given (size_said (read_sheet sheet.now))) (sheet_in kind.old width.old height.old) (sheet_in kind.new width.new height.new) }
 {
-    tell_said(sheet_size(sheet), kind, width, height)
+    tell_sheet(sheet_size(sheet), kind, width, height)
 }
 
 // Reads a sheet's cells into `out`, which is to be as long as the map, with kind, width and height in the lent numbers.
@@ -79,5 +63,5 @@ pub extern "C" fn plombrisa_read_sheet(
 ) -> u32
     ensures { HostSheet result (read_sheet sheet.now) out.old out.new (sheet_in kind.old width.old height.old) (sheet_in kind.new width.new height.new) }
 {
-    tell_said(read_sheet(sheet, out), kind, width, height)
+    tell_sheet(read_sheet(sheet, out), kind, width, height)
 }

@@ -1,94 +1,142 @@
-// What an answer tells a host, with what it found in the lent numbers.
-ghost use Rattle.refusals.specs.Given.{written_given};
-ghost use Rattle.netpbm.specs.Given.{size_given};
-ghost use Rattle.volume.specs.Given.{shape_given, heap_given};
-ghost use Rattle.vendor.specs.Given.{verdict_given};
-ghost use Rattle.plombrisa.specs.Host.{HostTold, sides_in, grid_in, figures_in, verdict_in, HostVerdict};
+// What an answer tells a host: 0, with its value in the lent numbers; or the number of the refusal, which leaves them as they were.
+ghost use Rattle.refusals.specs.Given.{given_back, number_in};
+ghost use Rattle.sheets.specs.Given.{said_given};
+ghost use Rattle.plombrisa.specs.Host.{HostTold, sides_in, sheet_in, grid_in, figures_in, verdict_in, HostVerdict};
+ghost use Rattle.std.specs.Prelude.{◌≡◌};
 
 use netpbm::raster::Size;
-use refusals::Written;
+use refusals::Refusal;
+use sheets::reading::SheetSize;
 use vendor::Verdict;
-use volume::heap::Heap;
+use volume::heap::Figures;
 use volume::site::Shape;
 
-// What an answer says, with its byte count in the lent number.
-pub fn tell_bytes(answer: Written, count: &mut u64) -> u32
-    ensures { HostTold result (written_given answer) count.old count.new }
+// An answer without a value.
+pub fn number(answer: Result<(), Refusal>) -> u32
+    ensures { result ≡ number_in answer }
 {
     match answer {
-        Written::Refused(n) => n as u32,
-        Written::Bytes(v) => {
-            *count = v as u64;
-            0
-        }
+        Ok(()) => 0,
+        Err(refusal) => u32::from(refusal),
     }
 }
 
-// What an answer says, with width and height in the lent numbers.
-pub fn tell_size(answer: Size, width: &mut u64, height: &mut u64) -> u32
-    ensures { HostTold result (size_given answer) (sides_in width.old height.old) (sides_in width.new height.new) }
+// An answer of one value.
+pub fn tell<T: Copy>(answer: Result<T, Refusal>, lent: &mut T) -> u32
+    ensures { HostTold result (given_back answer) lent.old lent.new }
 {
     match answer {
-        Size::Refused(n) => n as u32,
-        Size::Is(w, h) => {
-            *width = w as u64;
-            *height = h as u64;
+        Ok(value) => {
+            *lent = value;
             0
         }
+        Err(refusal) => u32::from(refusal),
     }
 }
 
-// What an answer says, with the cells of a row and the rows in the lent numbers.
-pub fn tell_shape(answer: Shape, columns: &mut u64, rows: &mut u64) -> u32
-    ensures { HostTold result (shape_given answer) (grid_in columns.old rows.old) (grid_in columns.new rows.new) }
+// A count.
+pub fn tell_count(answer: Result<usize, Refusal>, count: &mut u64) -> u32
+    ensures { HostTold result (given_back answer) count.old count.new }
 {
     match answer {
-        Shape::Refused(n) => n as u32,
-        Shape::Grid(c, r) => {
-            *columns = c as u64;
-            *rows = r as u64;
+        Ok(n) => {
+            *count = n as u64;
             0
         }
+        Err(refusal) => u32::from(refusal),
     }
 }
 
-// What an answer says, with a heap's figures in the lent numbers.
+// The size of a file's raster.
+pub fn tell_size(answer: Result<Size, Refusal>, width: &mut u64, height: &mut u64) -> u32
+    ensures { HostTold result (given_back answer) (sides_in width.old height.old) (sides_in width.new height.new) }
+{
+    match answer {
+        Ok(size) => {
+            *width = size.width as u64;
+            *height = size.height as u64;
+            0
+        }
+        Err(refusal) => u32::from(refusal),
+    }
+}
+
+// What a sheet is.
+pub fn tell_sheet(
+    answer: Result<SheetSize, Refusal>,
+    kind: &mut u64,
+    width: &mut u64,
+    height: &mut u64,
+) -> u32
+    ensures { HostTold result (said_given (given_back answer)) (sheet_in kind.old width.old height.old) (sheet_in kind.new width.new height.new) }
+{
+    match answer {
+        Ok(size) => {
+            *kind = u64::from(size.kind);
+            *width = size.width as u64;
+            *height = size.height as u64;
+            0
+        }
+        Err(refusal) => u32::from(refusal),
+    }
+}
+
+// The shape of a site's grid.
+pub fn tell_shape(answer: Result<Shape, Refusal>, columns: &mut u64, rows: &mut u64) -> u32
+    ensures { HostTold result (given_back answer) (grid_in columns.old rows.old) (grid_in columns.new rows.new) }
+{
+    match answer {
+        Ok(shape) => {
+            *columns = shape.columns as u64;
+            *rows = shape.rows as u64;
+            0
+        }
+        Err(refusal) => u32::from(refusal),
+    }
+}
+
+// A heap's figures.
 pub fn tell_heap(
-    answer: Heap,
+    answer: Result<Figures, Refusal>,
     volume: &mut u64,
     inside: &mut u64,
     outside: &mut u64,
     empty: &mut u64,
 ) -> u32
-    ensures { HostTold result (heap_given answer) (figures_in volume.old inside.old outside.old empty.old) (figures_in volume.new inside.new outside.new empty.new) }
+    ensures { HostTold result (given_back answer) (figures_in volume.old inside.old outside.old empty.old) (figures_in volume.new inside.new outside.new empty.new) }
 {
     match answer {
-        Heap::Refused(n) => n as u32,
-        Heap::Measured(f) => {
-            *volume = f.volume;
-            *inside = f.inside as u64;
-            *outside = f.outside as u64;
-            *empty = f.empty as u64;
+        Ok(figures) => {
+            *volume = figures.volume;
+            *inside = figures.inside as u64;
+            *outside = figures.outside as u64;
+            *empty = figures.empty as u64;
             0
         }
+        Err(refusal) => u32::from(refusal),
     }
 }
 
-// What an answer says: whether a vendor's map passed, 1 or 0, and column and row of the first bad cell in the lent numbers.
-pub fn tell_verdict(answer: Verdict, passed: &mut u32, x: &mut u64, y: &mut u64) -> u32
-    ensures { HostVerdict result (verdict_given answer) (verdict_in passed.old x.old y.old) (verdict_in passed.new x.new y.new) }
+// Whether a vendor's map passed, 1 or 0, and column and row of the first bad cell.
+pub fn tell_verdict(
+    answer: Result<Verdict, Refusal>,
+    passed: &mut u32,
+    x: &mut u64,
+    y: &mut u64,
+) -> u32
+    ensures { HostVerdict result (given_back answer) (verdict_in passed.old x.old y.old) (verdict_in passed.new x.new y.new) }
 {
     match answer {
-        Verdict::Refused(n) => n,
-        Verdict::Yes => {
+        Ok(Verdict::Yes) => {
             *passed = 1;
             0
         }
-        Verdict::No(column, row) => {
+        Ok(Verdict::No(column, row)) => {
             *passed = 0;
             *x = column as u64;
             *y = row as u64;
             0
         }
+        Err(refusal) => u32::from(refusal),
     }
 }

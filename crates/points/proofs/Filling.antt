@@ -1,141 +1,110 @@
--- The list while it is filled: the first n records are written, and the others are as they were. Assumes nothing.
---     Ready       what is known of how many records are to be written
---     Filling     the loop's state: n records are written, and the next one is that of a cell from `at` on
---     begins, goes_on, ended     the state before the loop, after a turn, and what the list is at the end
-use mathlib.Core.Path.{◌≡◌, refl, sym, ap, ◌∙◌}
-use Prim.Native.Nat.{ℕ, zero, suc, ◌+◌, ◌*◌, ◌≤◌, ◌<◌}
-use native.Mathlib.Numerals.{add-one}
-use native.Mathlib.Nat.{le_antisymm}
-use native.Mathlib.Omega.{arith}
-use mathlib.Core.List.{List, [], ◌∷◌, ◌++◌, append_assoc}
-use borrow.Author.Tests.{ltb-false, not-false}
-use lib.ListN.{length, get_or, take, drop, set, length-append, length-drop}
-use lib.Seq.{drop-cons, take-suc, take-length, set_at, length-take-le}
-use lib.Dec.{lit<}
-use lib.Ieee.{Float}
+-- The list while it is filled: the records of the cells seen so far, and beyond them what was there. Assumes nothing.
+use Rattle.std.proofs.Common.{◌≡◌, ℕ, zero, suc, Bool, ◌+◌, ◌*◌, ◌≤◌, ◌<◌, true, false, cond, List, [], ◌∷◌, ◌++◌, length, get_or, take, drop, set, add-zero, refl, sym, ap, ◌∙◌, arith, append_assoc, drop-cons, add-one, zero-add, append-nil, ltb-false, lit<}
+use Rattle.std.proofs.lemmas.List.Sums.{count_by_more_yes, count_by_more_no, sum_by-take-le}
+use borrow.Author.Tests.{not-false}
+use lib.Seq.{take-suc, take-length, set_at, length-take-le}
+use lib.Ieee.{Float, nan}
 use Rattle.options.specs.Limits.{side_most}
-use Rattle.refusals.specs.Answered.{Row, first_of}
-use Rattle.refusals.specs.Outcome.{after}
+use Rattle.refusals.specs.Answered.{first_of}
+use Rattle.refusals.specs.Steps.{is}
+use Rattle.refusals.specs.Outcome.{answer_for}
 use Rattle.refusals.proofs.Answering.{none_of}
 use Rattle.maps.specs.Map.{good_size}
 use Rattle.maps.proofs.Facts.{good, pixels-small}
 use Rattle.points.specs.declared.Intrinsics.{Intrinsics}
 use Rattle.points.specs.declared.PointRecord.{PointRecord}
-use Rattle.points.specs.Records.{points_in, records_from, point_rows, list_after}
+use Rattle.points.specs.Point.{is_positive}
+use Rattle.points.specs.Records.{points_in, point_record, records_from, point_rows, filled_for}
 use Rattle.points.proofs.Laws.{records-length}
 
--- one more of the records rs stands in place of one more of ls
-module _ (rs ls : List PointRecord) (n : ℕ) (p : PointRecord) (rest : List PointRecord) (in-rs : n < length rs) (in-ls : n < length ls) (e : drop n rs ≡ p ∷ rest) where
-  cut : get_or rs n p ∷ drop (suc n) rs ≡ p ∷ rest
-  cut = sym (drop-cons rs n p in-rs) ∙ e
+-- what a map and a list for its points have that are not refused
+pub record Asked (w h : ℕ) (cells : List Float) (k : Intrinsics) (m count : ℕ) : Type 0 where
+  pub none : first_of (point_rows w h cells k m) ≡ 0
+  pub counted : count ≡ points_in cells
+  pub room : count ≤ m
+  pub wide : 0 < w
+  pub few : length cells ≤ side_most * side_most
 
-  is-next : get_or rs n p ≡ p
-  is-next = let c = cut in cc
+accepted : {A : Type 0} (n : ℕ) {v made : A} → is v ≡ answer_for n made → (n ≡ 0) × (v ≡ made)
+accepted zero e = (refl, cc)
+accepted (suc n) e = cc
 
-  pub one_fewer : drop (n + 1) rs ≡ rest
-  one_fewer = let c : get_or rs n p ∷ drop (suc n) rs ≡ p ∷ rest = cut in rw add-one (cc)
+pub asked : (w h : ℕ) (cells : List Float) (k : Intrinsics) (m count : ℕ) → is count ≡ filled_for w h cells k m → Asked w h cells k m count
+unfolding filled_for
+asked w h cells k m count e =
+    let a = accepted (first_of (point_rows w h cells k m)) e in
+    let tests = none_of (point_rows w h cells k m) (lit< tt, (lit< tt, (lit< tt, (lit< tt, tt)))) a.0 in
+    let g = good w h (length cells) (not-false (good_size w h (length cells)) tests.1.1.0) in
+    record {
+      none = a.0;
+      counted = a.1;
+      room = rw a.1 (ltb-false m (points_in cells) tests.1.1.1.0);
+      wide = g.wide;
+      few = omega (arith, g.long, pixels-small w h g.narrow g.low);
+    }
 
-  front : take (n + 1) rs ≡ take n rs ++ (p ∷ [])
-  front = rw add-one (take-suc rs n p in-rs ∙ ap (λ (x : PointRecord). take n rs ++ (x ∷ [])) is-next)
+records-append : (w : ℕ) (k : Intrinsics) (i : ℕ) (cs ds : List Float) → records_from w k i (cs ++ ds) ≡ records_from w k i cs ++ records_from w k (i + length cs) ds
+unfolding records_from
+records-append w k i [] ds = rw add-zero
+records-append w k i (c ∷ cs) ds = rw (← moved i (length cs)) (one (is_positive c) (point_record w k i c) _ _ _ (records-append w k (suc i) cs ds))
+  where
+    moved : (i m : ℕ) → suc i + m ≡ i + suc m
+    moved i m = omega arith
 
-  pub one_more : set (take n rs ++ drop n ls) n p ≡ take (n + 1) rs ++ drop (n + 1) ls
-  one_more =
-      ap (λ (l : List PointRecord). set (take n rs ++ l) n p) (drop-cons ls n p in-ls)
-      ∙ (set_at (take n rs) (get_or ls n p) (drop (suc n) ls) p n (length-take-le n rs (omega arith))
-      ∙ (sym (append_assoc (take n rs) (p ∷ []) (drop (suc n) ls))
-      ∙ (ap (λ (l : List PointRecord). l ++ drop (suc n) ls) (sym front)
-      ∙ ap (λ (m : ℕ). take (n + 1) rs ++ drop m ls) (sym (add-one n)))))
+    one : (t : Bool) (r : PointRecord) (a b d : List PointRecord) → a ≡ b ++ d → cond t (r ∷ a) a ≡ cond t (r ∷ b) b ++ d
+    one true r a b d e = ap (λ (l : List PointRecord). r ∷ l) e
+    one false r a b d e = e
 
-module _ (w h : ℕ) (cells : List Float) (k : Intrinsics) (list : List PointRecord) where
-  abbrev records : List PointRecord
-  records = records_from w k 0 cells
+module _ (w : ℕ) (k : Intrinsics) (cells : List Float) (list : List PointRecord) where
+  -- the records of the first i cells
+  abbrev seen : ℕ → List PointRecord
+  seen i = records_from w k 0 (take i cells)
 
-  abbrev rows : List Row
-  rows = point_rows w h cells k (length list)
+  -- so far: n of them are written
+  pub record Filling (n i : ℕ) (now : List PointRecord) : Type 0 where
+    pub counted : n ≡ points_in (take i cells)
+    pub done : now ≡ seen i ++ drop n list
 
-  -- how many records there are to write, after the refusal n
-  abbrev to_write : ℕ → ℕ
-  to_write n = after n (points_in cells) 0
+  pub begins : Filling 0 0 list
+  unfolding records_from
+  begins = record { counted = refl; done = refl }
 
-  -- there is room, and where a record is to be written the map has a good size
-  pub record Ready (count : ℕ) : Type 0 where
-    pub fits : count ≤ length list
-    pub all : 0 < count → count ≡ length records
-    pub wide : 0 < count → 0 < w
-    pub few : 0 < count → length cells ≤ side_most * side_most
+  module _ (i : ℕ) (b : i < length cells) where
+    abbrev cell : Float
+    cell = get_or cells i nan
 
-  pub ready : (count : ℕ) → count ≡ to_write (first_of rows) → Ready count
-  ready count e = rw e (go (first_of rows) refl)
-    where
-      go : (n : ℕ) → first_of rows ≡ n → Ready (to_write n)
-      go zero none =
-          let tests = none_of rows (lit< tt, (lit< tt, (lit< tt, (lit< tt, tt)))) none in
-          let g = good w h (length cells) (not-false (good_size w h (length cells)) tests.1.1.0) in
+    one-more : seen (i + 1) ≡ seen i ++ records_from w k i (cell ∷ [])
+    one-more =
+        rw (add-one, take-suc cells i nan b, records-append w k 0 (take i cells) (cell ∷ []), length-take-le i cells (omega arith), zero-add i) refl
+
+    -- a cell that gives no point is passed over
+    pub skips : (n : ℕ) (now : List PointRecord) → is_positive cell ≡ false → Filling n i now → Filling n (i + 1) now
+    unfolding records_from
+    skips n now none f =
+        let e : seen (i + 1) ≡ seen i = rw none at one-more ∙ append-nil (seen i) in
+        record { counted = f.counted ∙ sym (count_by_more_no is_positive cells i nan b none); done = rw e f.done }
+
+    module _ (some : is_positive cell ≡ true) (n : ℕ) (now : List PointRecord) (f : Filling n i now) where
+      more : points_in (take (i + 1) cells) ≡ n + 1
+      more = count_by_more_yes is_positive cells i nan b some ∙ ap (λ (m : ℕ). m + 1) (sym f.counted)
+
+      -- there is a further record
+      pub within : n < points_in cells
+      within = omega (arith, more, sum_by-take-le (λ x. cond (is_positive x) 1 0) cells (i + 1))
+
+      -- and it is written, where there is room for it
+      pub writes : points_in cells ≤ length list → Filling (n + 1) (i + 1) (set now n (point_record w k i cell))
+      unfolding records_from
+      writes room =
+          let p = point_record w k i cell in
+          let e : seen (i + 1) ≡ seen i ++ (p ∷ []) = rw some at one-more in
+          let l : length (seen i) ≡ n = records-length w k 0 (take i cells) ∙ sym f.counted in
           record {
-            fits = ltb-false (length list) (points_in cells) tests.1.1.1.0;
-            all = λ _. sym (records-length w k 0 cells);
-            wide = λ _. g.wide;
-            few = λ _. omega (arith, g.long, pixels-small w h g.narrow g.low);
-          }
-      -- a refusal has no record to write
-      go (suc n) some = record { fits = omega arith; all = λ z. absurd (omega (arith, z)); wide = λ z. absurd (omega (arith, z)); few = λ z. absurd (omega (arith, z)) }
-
-  -- n records are written
-  abbrev pub upto : ℕ → List PointRecord
-  upto n = take n records ++ drop n list
-
-  pub whole : upto (to_write (first_of rows)) ≡ list_after w h cells k list
-  unfolding list_after
-  whole = go (first_of rows)
-    where
-      go : (n : ℕ) → upto (to_write n) ≡ after n (records ++ drop (points_in cells) list) list
-      go zero = ap (λ (l : List PointRecord). l ++ drop (points_in cells) list) (ap (λ (n : ℕ). take n records) (sym (records-length w k 0 cells)) ∙ take-length records)
-      go (suc n) = refl
-
-  -- the loop's state: n of `count` records are written in `now`, and the next one is that of a cell from `at` on
-  pub record Filling (count n at : ℕ) (now : List PointRecord) : Type 0 where
-    pub most : n ≤ count
-    pub done : now ≡ upto n
-    pub left : drop n records ≡ records_from w k at (drop at cells)
-
-  pub begins : (count : ℕ) → Filling count 0 0 list
-  begins count = record { most = omega arith; done = refl; left = refl }
-
-  module _ (count n at : ℕ) (now : List PointRecord) (r : Ready count) (f : Filling count n at now) where
-    -- the list keeps its length
-    pub long : length now ≡ length list
-    long = rw f.done (simp (length-append, length-drop) (omega (arith, short, r.fits, f.most)))
-      where
-        positive : (m : ℕ) → m ≤ count → length (take m records) ≡ m
-        positive zero h = refl
-        positive (suc m) h = length-take-le (suc m) records (omega (arith, r.all (omega arith), h))
-
-        short : length (take n records) ≡ n
-        short = positive n f.most
-
-    module _ (more : n < count) where
-      -- there is a further point
-      pub point-left : 0 < points_in (drop at cells)
-      point-left = omega (arith, records-length w k at (drop at cells), ap length f.left, length-drop n records, r.all (omega arith))
-
-      pub below : n < length now
-      below = omega (arith, long, r.fits)
-
-      in-records : n < length records
-      in-records = omega (arith, r.all (omega arith))
-
-      in_list : n < length list
-      in_list = omega (arith, r.fits)
-
-      -- a further record is written
-      pub goes_on : (p : PointRecord) (next : ℕ) → records_from w k at (drop at cells) ≡ p ∷ records_from w k next (drop next cells) → Filling count (n + 1) next (set now n p)
-      goes_on p next e =
-          record {
-            most = omega arith;
-            done = ap (λ (l : List PointRecord). set l n p) f.done ∙ one_more records list n p _ in-records in_list (f.left ∙ e);
-            left = one_fewer records list n p _ in-records in_list (f.left ∙ e);
+            counted = sym more;
+            done =
+                rw (f.done, drop-cons list n p (omega (arith, within, room)), set_at (seen i) (get_or list n p) (drop (suc n) list) p n l, e, add-one, append_assoc) refl;
           }
 
-    -- the list at the end
-    pub ended : count ≡ to_write (first_of rows) → count ≤ n → now ≡ list_after w h cells k list
-    ended e over = f.done ∙ (ap upto (le_antisymm f.most over ∙ e) ∙ whole)
+  -- all cells are seen
+  pub ends : (n i : ℕ) (now : List PointRecord) → length cells ≡ i → Filling n i now → now ≡ records_from w k 0 cells ++ drop (points_in cells) list
+  ends n i now e f = f.done ∙ rw (f.counted, ← e, take-length) refl

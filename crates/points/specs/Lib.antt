@@ -1,4 +1,3 @@
--- What the functions of `points` answer; a reader has to believe all three. Definitions only.
+-- What the functions of `points` answer; a reader has to believe both. Definitions only.
 pub mod Point
 pub mod Records
-pub mod Given

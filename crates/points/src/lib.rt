@@ -1,19 +1,17 @@
 // The points of a disparity map: the point formula, its checks, and the list of point records, which the caller lends.
-// `points` is the one function over a slice of structs: it leaves each decision to the others.
 #![tactic(auto)]
 
-ghost use Rattle.std.specs.Prelude.{◌≡◌, true, ◌∷◌, ◌*◌, ◌<◌, ◌≤◌, length, drop};
-ghost use Rattle.std.specs.Float.Ieee.Scale.{finite};
+ghost use Rattle.std.specs.Prelude.{◌≡◌, ◌*◌, ◌<◌, ◌≤◌};
 ghost use Rattle.options.specs.Limits.{side_most};
-ghost use Rattle.refusals.specs.Answered.{first_of};
-ghost use Rattle.refusals.specs.Outcome.{after};
-ghost use Rattle.points.specs.Point.{depth_of, across_of, down_of, is_positive, point_of, good_camera, good_baseline};
-ghost use Rattle.points.specs.Records.{points_in, point_record, records_from, point_rows, filled_for, PointsOutcome};
+ghost use Rattle.refusals.specs.Given.{given_back};
+ghost use Rattle.points.specs.Point.{is_positive, point_at, point_of, good_camera, good_baseline};
+ghost use Rattle.points.specs.Records.{points_in, point_record, filled_for, PointsOutcome};
 
-use numbers::plain::{is_finite, is_finite_wide};
+use maps::{MapView, size_good};
+use refusals::Refusal;
 
 // The camera's numbers and the baseline.
-#[derive(Clone, Copy)]
+#[derive(Clone, Copy, Debug, PartialEq)]
 pub struct Intrinsics {
     pub fx: f64,
     pub fy: f64,
@@ -22,16 +20,17 @@ pub struct Intrinsics {
     pub baseline: f64,
 }
 
-// A point, or none.
-#[derive(Drop)]
-pub enum Point3 {
-    None,
-    At(f64, f64, f64),
+// A point in space.
+#[derive(Clone, Copy, Debug, PartialEq)]
+pub struct Point3 {
+    pub x: f64,
+    pub y: f64,
+    pub z: f64,
 }
 
-// A point, the pixel whose cell gave it, and that cell's disparity.
+// A point, the pixel whose cell gave it, and that cell's disparity. The C interface has its six fields in a row.
 #[repr(C)]
-#[derive(Drop)]
+#[derive(Clone, Copy, Debug, PartialEq)]
 pub struct PointRecord {
     pub x: f64,
     pub y: f64,
@@ -41,223 +40,124 @@ pub struct PointRecord {
     pub disparity: f64,
 }
 
-// The answer of `points`.
-#[derive(Drop)]
-pub enum Filled {
-    Written(usize),
-    Refused(u8),
-}
-
-// What `points` is to do: how many records to write, and what to answer.
-#[derive(Drop)]
-struct Plan {
-    count: usize,
-    answer: Filled,
-}
-
-// One record, and the cell to go on at.
-#[derive(Drop)]
-struct Step {
-    record: PointRecord,
-    next: usize,
-}
-
-// z = (fx · baseline) / d
-fn depth(k: Intrinsics, d: f64) -> f64
-    ensures { result ≡ depth_of k d }
-{
-    (k.fx * k.baseline) / d
-}
-
-// ((x - cx) · z) / fx
-fn across(k: Intrinsics, x: f64, z: f64) -> f64
-    ensures { result ≡ across_of k x z }
-{
-    ((x - k.cx) * z) / k.fx
-}
-
-// ((y - cy) · z) / fy
-fn down(k: Intrinsics, y: f64, z: f64) -> f64
-    ensures { result ≡ down_of k y z }
-{
-    ((y - k.cy) * z) / k.fy
-}
-
 // Whether a number is finite and positive.
 fn is_positive(x: f64) -> bool
     ensures { result ≡ is_positive x }
 {
-    if is_finite_wide(x) { 0.0 < x } else { false }
-}
-
-// The point of a pixel and a disparity. The intrinsics are taken as they are.
-pub fn rectified_point(k: Intrinsics, x: f64, y: f64, disparity: f64) -> Point3
-    ensures { result ≡ point_of k x y disparity }
-{
-    if !is_positive(disparity) {
-        return Point3::None;
-    }
-    if !is_finite_wide(x) {
-        return Point3::None;
-    }
-    if !is_finite_wide(y) {
-        return Point3::None;
-    }
-    let z = depth(k, disparity);
-    let px = across(k, x, z);
-    let py = down(k, y, z);
-    Point3::At(px, py, z)
-}
-
-// Whether fx and fy are finite and positive, and cx and cy finite.
-fn camera_good(k: Intrinsics) -> bool
-    ensures { result ≡ good_camera k }
-{
-    if !is_positive(k.fx) {
-        return false;
-    }
-    if !is_positive(k.fy) {
-        return false;
-    }
-    if !is_finite_wide(k.cx) {
-        return false;
-    }
-    is_finite_wide(k.cy)
-}
-
-// Whether the baseline is finite and over 1e-12.
-fn baseline_good(k: Intrinsics) -> bool
-    ensures { result ≡ good_baseline k }
-{
-    if is_finite_wide(k.baseline) {
-        1e-12 < k.baseline
-    } else {
-        false
-    }
+    x.is_finite() && 0.0 < x
 }
 
 // Whether a cell gives a point: it is valid and positive.
 fn is_point(c: f32) -> bool
     ensures { result ≡ is_positive c }
 {
-    if is_finite(c) { 0.0 < c } else { false }
+    is_positive(f64::from(c))
 }
 
 // How many cells give a point.
 fn points_in(cells: &[f32]) -> usize
     ensures { result ≡ points_in cells.now }
 {
-    let mut n: usize = 0;
-    let mut i: usize = 0;
-    while i < cells.len() {
-        if is_point(cells[i]) {
-            n += 1;
+    cells.iter().filter(|c| is_point(**c)).count()
+}
+
+impl Intrinsics {
+    // Whether fx and fy are finite and positive, and cx and cy finite.
+    #[tactic(auto, using(crate::proofs::Facts::finite_is), unfolding(crate::specs::Point::good_camera))]
+    fn is_camera_good(self) -> bool
+        ensures { result ≡ good_camera self }
+    {
+        is_positive(self.fx) && is_positive(self.fy) && self.cx.is_finite() && self.cy.is_finite()
+    }
+
+    // Whether the baseline is finite and over 1e-12.
+    #[tactic(auto, using(crate::proofs::Facts::finite_is), unfolding(crate::specs::Point::good_baseline))]
+    fn is_baseline_good(self) -> bool
+        ensures { result ≡ good_baseline self }
+    {
+        self.baseline.is_finite() && 1e-12 < self.baseline
+    }
+
+    // The point of a pixel and a disparity by the formula alone.
+    fn point_at(self, x: f64, y: f64, disparity: f64) -> Point3
+        ensures { result ≡ point_at self x y disparity }
+    {
+        let z = (self.fx * self.baseline) / disparity;
+        Point3 {
+            x: ((x - self.cx) * z) / self.fx,
+            y: ((y - self.cy) * z) / self.fy,
+            z,
         }
-        i += 1;
     }
-    n
-}
 
-// The record of the cell at i of a map, a number c.
-fn point_record(width: usize, k: Intrinsics, i: usize, c: f32) -> PointRecord
-    requires { (0 < width) × ((i ≤ side_most * side_most) × (finite c ≡ true)) }
-    ensures { result ≡ point_record width k i c }
-{
-    let column = i % width;
-    let row = i / width;
-    let d = c as f64;
-    let z = depth(k, d);
-    let x = across(k, column as f64, z);
-    let y = down(k, row as f64, z);
-    PointRecord {
-        x,
-        y,
-        z,
-        column,
-        row,
-        disparity: d,
+    // The point of a pixel and a disparity, where there is one. The intrinsics are taken as they are.
+    #[tactic(auto, using(crate::proofs::Facts::finite_is), unfolding(crate::specs::Point::point_of))]
+    pub fn rectified_point(self, x: f64, y: f64, disparity: f64) -> Option<Point3>
+        ensures { result ≡ point_of self x y disparity }
+    {
+        if is_positive(disparity) && x.is_finite() && y.is_finite() {
+            Some(self.point_at(x, y, disparity))
+        } else {
+            None
+        }
     }
-}
 
-// The next record from the cell at `at` on, where there is one, and the cell after its own.
-fn next_record(width: usize, cells: &[f32], k: Intrinsics, at: usize) -> Step
-    requires { (0 < width) × ((length cells.now ≤ side_most * side_most) × (0 < points_in (drop at cells.now))) }
-    ensures { records_from width k at (drop at cells.now) ≡ result.record ∷ records_from width k result.next (drop result.next cells.now) }
-{
-    let mut i = at;
-    while !is_point(cells[i]) {
-        i += 1;
-    }
-    let record = point_record(width, k, i, cells[i]);
-    Step {
-        record,
-        next: i + 1,
+    // The record of the cell at i of a map, a number c.
+    #[tactic(auto, unfolding(crate::specs::Records::point_record))]
+    fn point_record(self, width: usize, i: usize, c: f32) -> PointRecord
+        requires wide { 0 < width }
+        requires few { i ≤ side_most * side_most }
+        ensures { result ≡ point_record width self i c }
+    {
+        let column = i % width;
+        let row = i / width;
+        let disparity = f64::from(c);
+        let Point3 { x, y, z } = self.point_at(column as f64, row as f64, disparity);
+        PointRecord {
+            x,
+            y,
+            z,
+            column,
+            row,
+            disparity,
+        }
     }
 }
 
-// What a list of `room` records for the points of a map, `count` of them, is refused with, 0 for none.
-fn point_refusal(
-    room: usize,
-    width: usize,
-    height: usize,
-    cells: &[f32],
-    k: Intrinsics,
-    count: usize,
-) -> u8
-    requires { count ≡ points_in cells.now }
-    ensures { result ≡ first_of (point_rows width height cells.now k room) }
+// How many records the points of a map are, or why a list of `room` records for them is refused.
+#[tactic(auto, unfolding(refusals::specs::Answered::first_of, crate::specs::Records::filled_for))]
+fn records_asked(room: usize, map: MapView, camera: Intrinsics) -> Result<usize, Refusal>
+    ensures { given_back result ≡ filled_for map.entry.width map.entry.height map.entry.cells.now camera room }
 {
-    if !camera_good(k) {
-        return 21;
+    if !camera.is_camera_good() {
+        return Err(Refusal::CameraOutOfRange);
     }
-    if !baseline_good(k) {
-        return 22;
+    if !camera.is_baseline_good() {
+        return Err(Refusal::BaselineOutOfRange);
     }
-    if !maps::size_good(width, height, cells.len()) {
-        return 23;
+    if !size_good(map.width, map.height, map.cells.len()) {
+        return Err(Refusal::MapSize);
     }
+    let count = points_in(map.cells);
     if room < count {
-        return 24;
+        return Err(Refusal::ListTooShort);
     }
-    0
-}
-
-// What `points` is to do with a list of `room` records.
-fn planned(room: usize, width: usize, height: usize, cells: &[f32], k: Intrinsics) -> Plan
-    ensures { (result.answer ≡ filled_for width height cells.now k room) × (result.count ≡ after (first_of (point_rows width height cells.now k room)) (points_in cells.now) 0) }
-{
-    let count = points_in(cells);
-    let refused = point_refusal(room, width, height, cells, k, count);
-    if refused != 0 {
-        return Plan {
-            count: 0,
-            answer: Filled::Refused(refused),
-        };
-    }
-    Plan {
-        count,
-        answer: Filled::Written(count),
-    }
+    Ok(count)
 }
 
 // Writes the record of each cell that gives a point, rows first. The answer is how many.
-pub fn points(
-    list: &mut [PointRecord],
-    width: usize,
-    height: usize,
-    cells: &[f32],
-    k: Intrinsics,
-) -> Filled
-    ensures { PointsOutcome result width height cells.now k list.old list.new }
+pub fn points(list: &mut [PointRecord], map: MapView, camera: Intrinsics) -> Result<usize, Refusal>
+    ensures { PointsOutcome result map.entry.width map.entry.height map.entry.cells.now camera list.old list.new }
 {
-    let plan = planned(list.len(), width, height, cells, k);
+    let count = records_asked(list.len(), map, camera)?;
+
+    // By index, since a proof knows nothing of what an adapter of `iter_mut` wrote.
     let mut n: usize = 0;
-    let mut at: usize = 0;
-    while n < plan.count {
-        let step = next_record(width, cells, k, at);
-        list[n] = step.record;
-        at = step.next;
-        n += 1;
+    for (i, c) in map.cells.iter().enumerate() {
+        if is_point(*c) {
+            list[n] = camera.point_record(map.width, i, *c);
+            n += 1;
+        }
     }
-    plan.answer
+    Ok(count)
 }

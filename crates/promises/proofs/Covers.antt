@@ -15,8 +15,11 @@ use Rattle.refusals.proofs.Answering.{none_of}
 use Rattle.refusals.proofs.Cases.{after_none}
 use Rattle.calls.specs.Refusals.{in_range, picture_rows, search_rows, table, refusal}
 use Rattle.calls.proofs.Rows.{table-numbered}
-use Rattle.maps.specs.declared.Number.{Number}
-use Rattle.maps.specs.declared.Number.TheVariants as number
+use Rattle.std.specs.Prelude.{Result, Ok}
+use Rattle.refusals.specs.declared.Refusal.{Refusal}
+use Rattle.refusals.specs.Steps.{is}
+use Rattle.refusals.specs.Given.{given_back}
+use Rattle.refusals.proofs.Numbers.{known_by}
 use Rattle.maps.specs.Map.{good_size, cover_rows, cover_of}
 use Rattle.maps.proofs.Covered.{cover-full}
 use Rattle.choices.specs.LeftRight.{left_right}
@@ -64,16 +67,16 @@ module _ {w h : ℕ} {o : BlockMatchOptions} {left right : List ℕ} (m : Accept
       rw (sides.0, eq-eqb (length (map_of w h o left right)) (w * h) (map-length w h o left right), block.0, block.1.0, block.1.1.1.1.0)
 
   -- THEOREM: a semi-global map without the left-right test shows 1,000
-  pub semi-cover : o.mode ≡ SemiGlobal → o.lr_consistency ≡ false → cover_of w h (map_of w h o left right) o.block_size ≡ number.Is 1000
+  pub semi-cover : o.mode ≡ SemiGlobal → o.lr_consistency ≡ false → cover_of w h (map_of w h o left right) o.block_size ≡ is 1000
   semi-cover semi untested =
       (cover-full w h (map_of w h o left right) o.block_size own-cover).1
       (λ p l inside. rw (untested-map w h o left right untested) (semi-finite m semi Left p l inside))
 
 -- THEOREM: so of the calls: where such a match of pictures is answered 0, `cover` of its output by the same block answers 1,000
-pub semi-cover-call : {n w h : ℕ} {o : BlockMatchOptions} {left right : List ℕ} {out out' : List Float} {whole whole' : List ℕ} {float float' : List Float} {answer : Number}
+pub semi-cover-call : {n w h : ℕ} {o : BlockMatchOptions} {left right : List ℕ} {out out' : List Float} {whole whole' : List ℕ} {float float' : List Float} {answer : Result ℕ Refusal}
     → MatchOutcome n (match_call left w h right w h o (length out) (length whole) (length float)) o left right out out' whole whole' float float' → n ≡ 0
     → Levels left → Levels right → o.mode ≡ SemiGlobal → o.lr_consistency ≡ false
-    → answer ≡ cover_of w h out' o.block_size → answer ≡ number.Is 1000
-semi-cover-call {n} {w} {h} {o} {left} {right} {out} made none left-levels right-levels semi untested cover =
+    → given_back answer ≡ cover_of w h out' o.block_size → answer ≡ Ok 1000
+semi-cover-call {n} {w} {h} {o} {left} {right} {out} {answer = answer} made none left-levels right-levels semi untested cover =
     let m : AcceptedPair w h o left right = record { out = _; whole = _; float = _; accepted = sym made.answer ∙ none; left-levels = left-levels; right-levels = right-levels } in
-    cover ∙ ap (λ cells. cover_of w h cells o.block_size) (made.output ∙ after_none n _ out none) ∙ semi-cover m semi untested
+    known_by answer (Ok 1000) (cover ∙ ap (λ cells. cover_of w h cells o.block_size) (made.output ∙ after_none n _ out none) ∙ semi-cover m semi untested)

@@ -1,4 +1,4 @@
--- Demand 3 is no empty promise: a worked pair for each of its sentences. Document 01's example pictures, the left made 2·v - 1 and the right 4·v + 3. Assumes nothing.
+-- Demand 3 is no empty promise: a worked pair for each of its sentences. The specification's example pictures, the left made 2·v - 1 and the right 4·v + 3. Assumes nothing.
 use Prim.Native.Nat.{ℕ}
 use mathlib.Core.Path.{◌≡◌, refl}
 use mathlib.Core.Bool.{true, false}
@@ -37,7 +37,7 @@ use Rattle.promises.proofs.Demand.{demand-three, misses-above, inside-rows, no_r
 abbrev rows : ℕ → ℕ → ℕ → ℕ → ℕ → List ℕ
 rows a b c d e = a ∷ b ∷ c ∷ d ∷ e ∷ a ∷ b ∷ c ∷ d ∷ e ∷ a ∷ b ∷ c ∷ d ∷ e ∷ []
 
--- document 01's pictures, and the changed ones
+-- the specification's pictures, and the changed ones
 abbrev left : List ℕ
 left = rows 9 1 4 7 2
 

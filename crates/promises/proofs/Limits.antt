@@ -8,7 +8,7 @@ use Rattle.refusals.specs.Answered.{first_of}
 use Rattle.calls.specs.Refusals.{picture_rows, search_rows, penalty_rows, out_rows, room_rows, table, refusal}
 use Rattle.maps.specs.Map.{good_size, inside}
 use Rattle.points.specs.Point.{is_positive, good_camera, good_baseline}
-use Rattle.points.specs.Records.{points_in, filled_for}
+use Rattle.points.specs.Records.{filled_for}
 use Rattle.sheets.specs.Number.{groups, number_bytes, take_groups, take_number}
 use Rattle.sheets.specs.Code.{kind_of, code_of, sheet_cell}
 use Rattle.sheets.specs.Sheet.{head_bytes, cells_bytes, kind_sheet, sheet_of, take_version, take_side, take_head, take_cell, take_cells, read_sheet}
@@ -24,7 +24,7 @@ use Rattle.promises.specs.LimitWitnesses.{LimitsHeld}
 
 -- THEOREM: what is just allowed is accepted, and what is just not is refused with its number
 pub limits-held : LimitsHeld
-unfolding mul div round size climb span units odd lt le is_nan of_int of_bits of_fields whole to_signed rounded_away list_of sum_to first_of picture_rows search_rows penalty_rows out_rows room_rows table refusal good_size inside is_positive good_camera good_baseline points_in filled_for groups number_bytes take_groups take_number kind_of code_of sheet_cell head_bytes cells_bytes kind_sheet sheet_of take_version take_side take_head take_cell take_cells read_sheet starts_with take_word take_white after_blanks take_blanks digits_of takeDigits take_spaced take_ended sized take_pgm_head read_pgm take_sign take_fraction take_scale take_pfm_head read_pfm millimetres good_coordinate all_good good_points spots_of above good_cell near_site multiple good_sides is_between is_inside falls_in height_of height_at is_empty inside_count outside_count grid_of empty_count volume_of figures_of grid_shape heap_of
+unfolding mul div round size climb span units odd lt le is_nan of_int of_bits of_fields whole to_signed rounded_away list_of sum_to first_of picture_rows search_rows penalty_rows out_rows room_rows table refusal good_size inside is_positive good_camera good_baseline filled_for groups number_bytes take_groups take_number kind_of code_of sheet_cell head_bytes cells_bytes kind_sheet sheet_of take_version take_side take_head take_cell take_cells read_sheet starts_with take_word take_white after_blanks take_blanks digits_of takeDigits take_spaced take_ended sized take_pgm_head read_pgm take_sign take_fraction take_scale take_pfm_head read_pfm millimetres good_coordinate all_good good_points spots_of above good_cell near_site multiple good_sides is_between is_inside falls_in height_of height_at is_empty inside_count outside_count grid_of empty_count volume_of figures_of grid_shape heap_of
 limits-held = record {
   widths = refl;
   heights = refl;

@@ -13,7 +13,7 @@ use Rattle.options.specs.declared.RawCost.{RawCost}
 use Rattle.options.specs.declared.RawCost.TheVariants.{Blank}
 use Rattle.maps.specs.declared.Cell.TheVariants.{Mark}
 use Rattle.maps.specs.Cells.{in_buffer}
-use Rattle.choices.specs.declared.block.Best.TheVariants.{Nothing}
+use Rattle.std.specs.Prelude.{None}
 use Rattle.choices.specs.declared.block.Gates.{Gates}
 use Rattle.choices.specs.declared.subpixel.Search.{Search}
 use Rattle.options.specs.Frame.{inner}
@@ -33,7 +33,7 @@ cell_same w h o v v' p same =
     ap (λ c. in_buffer (cond (inner w h (half o) p) (block_choice (search_of o) (gates_of o) c) Mark)) (costs-same v v' (w * h) p (count_of o) same)
 
 -- ---- where every raw cost of a pixel is blank there is no best, and the cell is the mark
-none-better : (n k : ℕ) → walk better k Nothing (list_of n (λ _. Blank)) ≡ Nothing
+none-better : (n k : ℕ) → walk better k None (list_of n (λ _. Blank)) ≡ None
 unfolding walk list_of
 none-better zero k = refl
 none-better (suc n) k = none-better n (suc k)
@@ -44,7 +44,7 @@ costs-blank v area p n each = list_of-same n _ _ (λ i l. ap raw_of (each i l))
 
 choice-blank : (search : Search) (gates : Gates) (n : ℕ) (costs : List RawCost) → costs ≡ list_of n (λ _. Blank) → block_choice search gates costs ≡ Mark
 unfolding block_choice best_of gated
-choice-blank search gates n costs e = ap (gated search gates costs) (ap (walk better 0 Nothing) e ∙ none-better n 0)
+choice-blank search gates n costs e = ap (gated search gates costs) (ap (walk better 0 None) e ∙ none-better n 0)
 
 both_ways : {A : Type 0} (t : Bool) (v : A) → cond t v v ≡ v
 both_ways true v = refl

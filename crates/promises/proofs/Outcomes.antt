@@ -4,6 +4,16 @@ use mathlib.Core.Path.{◌≡◌, ap}
 use mathlib.Core.List.{List}
 use lib.ListN.{length}
 use lib.Ieee.{Float, binary32, binary64}
+use Rattle.std.specs.Prelude.{Result, Option, Bool}
+use Rattle.refusals.specs.declared.Refusal.{Refusal}
+use Rattle.refusals.specs.Given.{given_back, number_in}
+use Rattle.refusals.proofs.Numbers.{known_by_number}
+use Rattle.maps.specs.declared.Cell.{Cell}
+use Rattle.maps.specs.declared.Span.{Span}
+use Rattle.sheets.specs.declared.reading.SheetSize.{SheetSize}
+use Rattle.netpbm.specs.declared.raster.Size.{Size}
+use Rattle.volume.specs.declared.site.Shape.{Shape}
+use Rattle.volume.specs.declared.heap.Figures.{Figures}
 use Rattle.numbers.specs.Root.{root_of}
 use Rattle.numbers.specs.Narrow.{narrowed}
 use Rattle.numbers.specs.Away.{rounded_away}
@@ -12,25 +22,14 @@ use Rattle.options.specs.declared.Side.{Side}
 use Rattle.options.specs.Options.{default_options}
 use Rattle.calls.specs.declared.Call.{Call}
 use Rattle.calls.specs.Refusals as calls
-use Rattle.pictures.specs.declared.Level.{Level}
-use Rattle.pictures.specs.declared.Sample.{Sample}
 use Rattle.pictures.specs.Picture.{pixel_of}
 use Rattle.pictures.specs.Bilinear.{sample_of}
-use Rattle.pictures.specs.Given.{level_given, sample_given}
-use Rattle.maps.specs.declared.Got.{Got}
-use Rattle.maps.specs.declared.Validity.{Validity}
-use Rattle.maps.specs.declared.Number.{Number}
-use Rattle.maps.specs.declared.Extent.{Extent}
 use Rattle.maps.specs.Map.{got_at, valid_at, valid_count, valid_range, cover_of}
-use Rattle.maps.specs.Given.{got_given, validity_given, number_given, range_given, extent_given}
 use Rattle.points.specs.declared.Intrinsics.{Intrinsics}
 use Rattle.points.specs.declared.Point3.{Point3}
 use Rattle.points.specs.declared.PointRecord.{PointRecord}
-use Rattle.points.specs.declared.Filled.{Filled}
 use Rattle.points.specs.Point.{point_of}
 use Rattle.points.specs.Records.{PointsOutcome}
-use Rattle.points.specs.Given.{point_given, filled_given}
-use Rattle.maps.specs.declared.Range.{Range}
 use Rattle.rows.specs.declared.RowRecord.{RowRecord}
 use Rattle.rows.specs.declared.Edit.{Edit}
 use Rattle.rows.specs.Index.{range_in, FreshOutcome, EditOutcome}
@@ -40,26 +39,16 @@ use Rattle.matching.specs.Outcome.{match_call, MatchOutcome}
 use Rattle.matching.proofs.Outcomes as matching
 use Rattle.vendor.specs.declared.Verdict.{Verdict}
 use Rattle.vendor.specs.Outcome.{vendor_call, CheckOutcome}
-use Rattle.vendor.specs.Given.{verdict_given}
 use Rattle.vendor.proofs.Outcomes as vendor
-use Rattle.refusals.specs.declared.Written.{Written}
 use Rattle.refusals.proofs.Outcomes.{same_outcome, same-given}
-use Rattle.sheets.specs.declared.reading.Said.{Said}
 use Rattle.sheets.specs.Sheet.{sheet_of, read_sheet}
 use Rattle.refusals.specs.Writes.{byte_count, WriteOutcome}
-use Rattle.refusals.specs.Given.{written_given}
 use Rattle.sheets.specs.Outcome.{size_said, ReadOutcome}
-use Rattle.sheets.specs.Given.{said_given}
 use Rattle.volume.specs.declared.site.Site.{Site}
-use Rattle.volume.specs.declared.site.Shape.{Shape}
-use Rattle.volume.specs.declared.heap.Heap.{Heap}
 use Rattle.volume.specs.Outcome.{grid_shape, HeapOutcome}
-use Rattle.volume.specs.Given.{shape_given, heap_given}
-use Rattle.netpbm.specs.declared.raster.Size.{Size}
 use Rattle.netpbm.specs.Pgm.{read_pgm}
 use Rattle.netpbm.specs.Pfm.{pfm_of, read_pfm}
 use Rattle.netpbm.specs.Outcome as netpbm
-use Rattle.netpbm.specs.Given.{size_given}
 
 -- a match: its number, the output and same_outcome rooms afterwards
 pub match-block : (left : List ℕ) (w h : ℕ) (right : List ℕ) (w' h' : ℕ) (o : BlockMatchOptions) (out : List Float) (whole : List ℕ) (float : List Float)
@@ -81,13 +70,17 @@ raw-volume left w h right w' h' o side out room n n' out₁ out₂ room₁ room�
 
 -- a check on a vendor's map: its verdict, and the room afterwards
 pub check-vendor : (left : List ℕ) (w h : ℕ) (right : List ℕ) (w' h' : ℕ) (o : BlockMatchOptions) (map : List Float) (mapWidth mapHeight : ℕ) (room : List ℕ)
-    (v v' : Verdict) (room₁ room₂ : List ℕ)
+    (v v' : Result Verdict Refusal) (room₁ room₂ : List ℕ)
     → CheckOutcome v (vendor_call left w h right w' h' o (length room)) o left right mapWidth mapHeight map room room₁
     → CheckOutcome v' (vendor_call left w h right w' h' o (length room)) o left right mapWidth mapHeight map room room₂
-    → ((v ≡ v') × (verdict_given v ≡ verdict_given v')) × (room₁ ≡ room₂)
+    → ((v ≡ v') × (given_back v ≡ given_back v')) × (room₁ ≡ room₂)
 check-vendor left w h right w' h' o map mapWidth mapHeight room v v' room₁ room₂ e e' =
     let one = vendor.one-outcome (vendor_call left w h right w' h' o (length room)) o left right mapWidth mapHeight map room v v' room₁ room₂ e e' in
-    ((one.0, ap verdict_given one.0), one.1)
+    ((one.0, ap given_back one.0), one.1)
+
+-- of a match, a raw volume, a fresh index and an edit the number is enough: answers without a value that have one number are one
+pub known : (r r' : Result Unit Refusal) → number_in r ≡ number_in r' → r ≡ r'
+known = known_by_number
 
 -- the refusal of a call
 pub refusal : (q : Call) (n n' : ℕ) → n ≡ calls.refusal q → n' ≡ calls.refusal q → n ≡ n'
@@ -111,11 +104,11 @@ pub narrow : (x r r' : Float) → r ≡ narrowed x → r' ≡ narrowed x → r �
 narrow x r r' = same_outcome
 
 -- the grey picture
-pub pixel : (pic : List ℕ) (w h x y : ℕ) (r r' : Level) → r ≡ pixel_of pic w h x y → r' ≡ pixel_of pic w h x y → (r ≡ r') × (level_given r ≡ level_given r')
-pixel pic w h x y r r' = same-given level_given
+pub pixel : (pic : List ℕ) (w h x y : ℕ) (r r' : Result ℕ Refusal) → given_back r ≡ pixel_of pic w h x y → given_back r' ≡ pixel_of pic w h x y → (r ≡ r') × (given_back r ≡ given_back r')
+pixel pic w h x y r r' = same-given
 
-pub bilinear : (pic : List ℕ) (w h : ℕ) (xf yf : Float) (r r' : Sample) → r ≡ sample_of pic w h xf yf → r' ≡ sample_of pic w h xf yf → (r ≡ r') × (sample_given r ≡ sample_given r')
-bilinear pic w h xf yf r r' = same-given sample_given
+pub bilinear : (pic : List ℕ) (w h : ℕ) (xf yf : Float) (r r' : Result Float Refusal) → given_back r ≡ sample_of pic w h xf yf → given_back r' ≡ sample_of pic w h xf yf → (r ≡ r') × (given_back r ≡ given_back r')
+bilinear pic w h xf yf r r' = same-given
 
 -- a view of a map: its three fields
 pub new : {Cells : Type 0} (w h : ℕ) (cells : Cells) (w₁ w₂ h₁ h₂ : ℕ) (cells₁ cells₂ : Cells) → (w₁ ≡ w) × ((h₁ ≡ h) × (cells₁ ≡ cells)) → (w₂ ≡ w) × ((h₂ ≡ h) × (cells₂ ≡ cells))
@@ -123,34 +116,34 @@ pub new : {Cells : Type 0} (w h : ℕ) (cells : Cells) (w₁ w₂ h₁ h₂ : �
 new w h cells w₁ w₂ h₁ h₂ cells₁ cells₂ e e' = (same_outcome e.0 e'.0, same_outcome e.1.0 e'.1.0, same_outcome e.1.1 e'.1.1)
 
 -- the map, by its view: `get`, `valid`, `valid_count` and `valid_range` answer what `cell_at`, `valid_at`, `count_valid` and `range_valid` do
-pub get : (w h : ℕ) (cells : List Float) (x y : ℕ) (r r' : Got) → r ≡ got_at w h cells x y → r' ≡ got_at w h cells x y → (r ≡ r') × (got_given r ≡ got_given r')
-get w h cells x y r r' = same-given got_given
+pub get : (w h : ℕ) (cells : List Float) (x y : ℕ) (r r' : Result Cell Refusal) → given_back r ≡ got_at w h cells x y → given_back r' ≡ got_at w h cells x y → (r ≡ r') × (given_back r ≡ given_back r')
+get w h cells x y r r' = same-given
 
-pub valid : (w h : ℕ) (cells : List Float) (x y : ℕ) (r r' : Validity) → r ≡ valid_at w h cells x y → r' ≡ valid_at w h cells x y → (r ≡ r') × (validity_given r ≡ validity_given r')
-valid w h cells x y r r' = same-given validity_given
+pub valid : (w h : ℕ) (cells : List Float) (x y : ℕ) (r r' : Result Bool Refusal) → given_back r ≡ valid_at w h cells x y → given_back r' ≡ valid_at w h cells x y → (r ≡ r') × (given_back r ≡ given_back r')
+valid w h cells x y r r' = same-given
 
-pub valid-count : (w h : ℕ) (cells : List Float) (r r' : Number) → r ≡ valid_count w h cells → r' ≡ valid_count w h cells → (r ≡ r') × (number_given r ≡ number_given r')
-valid-count w h cells r r' = same-given number_given
+pub valid-count : (w h : ℕ) (cells : List Float) (r r' : Result ℕ Refusal) → given_back r ≡ valid_count w h cells → given_back r' ≡ valid_count w h cells → (r ≡ r') × (given_back r ≡ given_back r')
+valid-count w h cells r r' = same-given
 
-pub valid-range : (w h : ℕ) (cells : List Float) (r r' : Extent) → r ≡ valid_range w h cells → r' ≡ valid_range w h cells → (r ≡ r') × (extent_given r ≡ extent_given r')
-valid-range w h cells r r' = same-given extent_given
+pub valid-range : (w h : ℕ) (cells : List Float) (r r' : Result (Option Span) Refusal) → given_back r ≡ valid_range w h cells → given_back r' ≡ valid_range w h cells → (r ≡ r') × (given_back r ≡ given_back r')
+valid-range w h cells r r' = same-given
 
 -- the cover figure
-pub cover : (w h : ℕ) (cells : List Float) (block : ℕ) (r r' : Number) → r ≡ cover_of w h cells block → r' ≡ cover_of w h cells block → (r ≡ r') × (number_given r ≡ number_given r')
-cover w h cells block r r' = same-given number_given
+pub cover : (w h : ℕ) (cells : List Float) (block : ℕ) (r r' : Result ℕ Refusal) → given_back r ≡ cover_of w h cells block → given_back r' ≡ cover_of w h cells block → (r ≡ r') × (given_back r ≡ given_back r')
+cover w h cells block r r' = same-given
 
 -- one point, and the list of points: its answer and the list afterwards
-pub rectified-point : (k : Intrinsics) (x y d : Float) (r r' : Point3) → r ≡ point_of k x y d → r' ≡ point_of k x y d → (r ≡ r') × (point_given r ≡ point_given r')
-rectified-point k x y d r r' = same-given point_given
+pub rectified-point : (k : Intrinsics) (x y d : Float) (r r' : Option Point3) → r ≡ point_of k x y d → r' ≡ point_of k x y d → r ≡ r'
+rectified-point k x y d r r' = same_outcome
 
-pub points : (w h : ℕ) (cells : List Float) (k : Intrinsics) (list : List PointRecord) (r r' : Filled) (list₁ list₂ : List PointRecord)
+pub points : (w h : ℕ) (cells : List Float) (k : Intrinsics) (list : List PointRecord) (r r' : Result ℕ Refusal) (list₁ list₂ : List PointRecord)
     → PointsOutcome r w h cells k list list₁ → PointsOutcome r' w h cells k list list₂
-    → ((r ≡ r') × (filled_given r ≡ filled_given r')) × (list₁ ≡ list₂)
-points w h cells k list r r' list₁ list₂ e e' = (same-given filled_given e.answer e'.answer, same_outcome e.lists e'.lists)
+    → ((r ≡ r') × (given_back r ≡ given_back r')) × (list₁ ≡ list₂)
+points w h cells k list r r' list₁ list₂ e e' = (same-given e.answer e'.answer, same_outcome e.lists e'.lists)
 
 -- a row's record: its range; a fresh index, and an edit, with the map and the index afterwards
-pub range : (record-of-row : RowRecord) (r r' : Range) → r ≡ range_in record-of-row → r' ≡ range_in record-of-row → (r ≡ r') × (range_given r ≡ range_given r')
-range record-of-row r r' = same-given range_given
+pub range : (record-of-row : RowRecord) (r r' : Option Span) → r ≡ range_in record-of-row → r' ≡ range_in record-of-row → r ≡ r'
+range record-of-row r r' = same_outcome
 
 pub fresh-index : (w h : ℕ) (cells : List Float) (index : List RowRecord) (n n' : ℕ) (index₁ index₂ : List RowRecord)
     → FreshOutcome n w h cells index index₁ → FreshOutcome n' w h cells index index₂ → (n ≡ n') × (index₁ ≡ index₂)
@@ -161,50 +154,50 @@ pub edit-cell : (w h : ℕ) (change : Edit) (cells : List Float) (index : List R
 edit-cell w h change cells index n n' cells₁ cells₂ index₁ index₂ e e' = (same_outcome e.answer e'.answer, same_outcome e.map e'.map, same_outcome e.records e'.records)
 
 -- a map's sheet: how long it is, and written, with the output afterwards
-pub sheet-length : (kind w h : ℕ) (cells : List Float) (r r' : Written) → r ≡ byte_count (sheet_of kind w h cells) → r' ≡ byte_count (sheet_of kind w h cells) → (r ≡ r') × (written_given r ≡ written_given r')
-sheet-length kind w h cells r r' = same-given written_given
+pub sheet-length : (kind w h : ℕ) (cells : List Float) (r r' : Result ℕ Refusal) → given_back r ≡ byte_count (sheet_of kind w h cells) → given_back r' ≡ byte_count (sheet_of kind w h cells) → (r ≡ r') × (given_back r ≡ given_back r')
+sheet-length kind w h cells r r' = same-given
 
-pub write-sheet : (kind w h : ℕ) (cells : List Float) (out : List ℕ) (r r' : Written) (out₁ out₂ : List ℕ)
-    → WriteOutcome 33 r (sheet_of kind w h cells) out out₁ → WriteOutcome 33 r' (sheet_of kind w h cells) out out₂ → ((r ≡ r') × (written_given r ≡ written_given r')) × (out₁ ≡ out₂)
-write-sheet kind w h cells out r r' out₁ out₂ e e' = (same-given written_given e.answers e'.answers, same_outcome e.outs e'.outs)
+pub write-sheet : (kind w h : ℕ) (cells : List Float) (out : List ℕ) (r r' : Result ℕ Refusal) (out₁ out₂ : List ℕ)
+    → WriteOutcome 33 r (sheet_of kind w h cells) out out₁ → WriteOutcome 33 r' (sheet_of kind w h cells) out out₂ → ((r ≡ r') × (given_back r ≡ given_back r')) × (out₁ ≡ out₂)
+write-sheet kind w h cells out r r' out₁ out₂ e e' = (same-given e.answers e'.answers, same_outcome e.outs e'.outs)
 
 -- what a sheet is, and read, with the output afterwards
-pub sheet-size : (s : List ℕ) (r r' : Said) → r ≡ size_said (read_sheet s) → r' ≡ size_said (read_sheet s) → (r ≡ r') × (said_given r ≡ said_given r')
-sheet-size s r r' = same-given said_given
+pub sheet-size : (s : List ℕ) (r r' : Result SheetSize Refusal) → given_back r ≡ size_said (read_sheet s) → given_back r' ≡ size_said (read_sheet s) → (r ≡ r') × (given_back r ≡ given_back r')
+sheet-size s r r' = same-given
 
-pub read-sheet : (s : List ℕ) (out : List Float) (r r' : Said) (out₁ out₂ : List Float)
-    → ReadOutcome r (read_sheet s) out out₁ → ReadOutcome r' (read_sheet s) out out₂ → ((r ≡ r') × (said_given r ≡ said_given r')) × (out₁ ≡ out₂)
-read-sheet s out r r' out₁ out₂ e e' = (same-given said_given e.answers e'.answers, same_outcome e.outs e'.outs)
+pub read-sheet : (s : List ℕ) (out : List Float) (r r' : Result SheetSize Refusal) (out₁ out₂ : List Float)
+    → ReadOutcome r (read_sheet s) out out₁ → ReadOutcome r' (read_sheet s) out out₂ → ((r ≡ r') × (given_back r ≡ given_back r')) × (out₁ ≡ out₂)
+read-sheet s out r r' out₁ out₂ e e' = (same-given e.answers e'.answers, same_outcome e.outs e'.outs)
 
 -- a PGM picture: its size, and read, with the output afterwards
-pub pgm-size : (s : List ℕ) (r r' : Size) → r ≡ netpbm.size_of (read_pgm s) → r' ≡ netpbm.size_of (read_pgm s) → (r ≡ r') × (size_given r ≡ size_given r')
-pgm-size s r r' = same-given size_given
+pub pgm-size : (s : List ℕ) (r r' : Result Size Refusal) → given_back r ≡ netpbm.size_of (read_pgm s) → given_back r' ≡ netpbm.size_of (read_pgm s) → (r ≡ r') × (given_back r ≡ given_back r')
+pgm-size s r r' = same-given
 
-pub read-pgm : (s : List ℕ) (out : List ℕ) (r r' : Size) (out₁ out₂ : List ℕ)
-    → netpbm.ReadOutcome r (read_pgm s) out out₁ → netpbm.ReadOutcome r' (read_pgm s) out out₂ → ((r ≡ r') × (size_given r ≡ size_given r')) × (out₁ ≡ out₂)
-read-pgm s out r r' out₁ out₂ e e' = (same-given size_given e.answers e'.answers, same_outcome e.outs e'.outs)
+pub read-pgm : (s : List ℕ) (out : List ℕ) (r r' : Result Size Refusal) (out₁ out₂ : List ℕ)
+    → netpbm.ReadOutcome r (read_pgm s) out out₁ → netpbm.ReadOutcome r' (read_pgm s) out out₂ → ((r ≡ r') × (given_back r ≡ given_back r')) × (out₁ ≡ out₂)
+read-pgm s out r r' out₁ out₂ e e' = (same-given e.answers e'.answers, same_outcome e.outs e'.outs)
 
 -- a map's PFM file: how long it is, and written, with the output afterwards
-pub pfm-length : (w h : ℕ) (cells : List Float) (r r' : Written) → r ≡ byte_count (pfm_of w h cells) → r' ≡ byte_count (pfm_of w h cells) → (r ≡ r') × (written_given r ≡ written_given r')
-pfm-length w h cells r r' = same-given written_given
+pub pfm-length : (w h : ℕ) (cells : List Float) (r r' : Result ℕ Refusal) → given_back r ≡ byte_count (pfm_of w h cells) → given_back r' ≡ byte_count (pfm_of w h cells) → (r ≡ r') × (given_back r ≡ given_back r')
+pfm-length w h cells r r' = same-given
 
-pub write-pfm : (w h : ℕ) (cells : List Float) (out : List ℕ) (r r' : Written) (out₁ out₂ : List ℕ)
-    → WriteOutcome 45 r (pfm_of w h cells) out out₁ → WriteOutcome 45 r' (pfm_of w h cells) out out₂ → ((r ≡ r') × (written_given r ≡ written_given r')) × (out₁ ≡ out₂)
-write-pfm w h cells out r r' out₁ out₂ e e' = (same-given written_given e.answers e'.answers, same_outcome e.outs e'.outs)
+pub write-pfm : (w h : ℕ) (cells : List Float) (out : List ℕ) (r r' : Result ℕ Refusal) (out₁ out₂ : List ℕ)
+    → WriteOutcome 45 r (pfm_of w h cells) out out₁ → WriteOutcome 45 r' (pfm_of w h cells) out out₂ → ((r ≡ r') × (given_back r ≡ given_back r')) × (out₁ ≡ out₂)
+write-pfm w h cells out r r' out₁ out₂ e e' = (same-given e.answers e'.answers, same_outcome e.outs e'.outs)
 
 -- a PFM map: its size, and read, with the output afterwards
-pub pfm-size : (s : List ℕ) (r r' : Size) → r ≡ netpbm.size_of (read_pfm s) → r' ≡ netpbm.size_of (read_pfm s) → (r ≡ r') × (size_given r ≡ size_given r')
-pfm-size s r r' = same-given size_given
+pub pfm-size : (s : List ℕ) (r r' : Result Size Refusal) → given_back r ≡ netpbm.size_of (read_pfm s) → given_back r' ≡ netpbm.size_of (read_pfm s) → (r ≡ r') × (given_back r ≡ given_back r')
+pfm-size s r r' = same-given
 
-pub read-pfm : (s : List ℕ) (out : List Float) (r r' : Size) (out₁ out₂ : List Float)
-    → netpbm.ReadOutcome r (read_pfm s) out out₁ → netpbm.ReadOutcome r' (read_pfm s) out out₂ → ((r ≡ r') × (size_given r ≡ size_given r')) × (out₁ ≡ out₂)
-read-pfm s out r r' out₁ out₂ e e' = (same-given size_given e.answers e'.answers, same_outcome e.outs e'.outs)
+pub read-pfm : (s : List ℕ) (out : List Float) (r r' : Result Size Refusal) (out₁ out₂ : List Float)
+    → netpbm.ReadOutcome r (read_pfm s) out out₁ → netpbm.ReadOutcome r' (read_pfm s) out out₂ → ((r ≡ r') × (given_back r ≡ given_back r')) × (out₁ ≡ out₂)
+read-pfm s out r r' out₁ out₂ e e' = (same-given e.answers e'.answers, same_outcome e.outs e'.outs)
 
 -- a heap: the shape of its grid, and its figures, with the grid afterwards
-pub heap-shape : (s : Site) (r r' : Shape) → r ≡ grid_shape s → r' ≡ grid_shape s → (r ≡ r') × (shape_given r ≡ shape_given r')
-heap-shape s r r' = same-given shape_given
+pub heap-shape : (s : Site) (r r' : Result Shape Refusal) → given_back r ≡ grid_shape s → given_back r' ≡ grid_shape s → (r ≡ r') × (given_back r ≡ given_back r')
+heap-shape s r r' = same-given
 
-pub heap-volume : (s : Site) (xs ys zs : List Float) (grid : List ℕ) (r r' : Heap) (grid₁ grid₂ : List ℕ)
+pub heap-volume : (s : Site) (xs ys zs : List Float) (grid : List ℕ) (r r' : Result Figures Refusal) (grid₁ grid₂ : List ℕ)
     → HeapOutcome r s xs ys zs grid grid₁ → HeapOutcome r' s xs ys zs grid grid₂
-    → ((r ≡ r') × (heap_given r ≡ heap_given r')) × (grid₁ ≡ grid₂)
-heap-volume s xs ys zs grid r r' grid₁ grid₂ e e' = (same-given heap_given e.answer e'.answer, same_outcome e.grids e'.grids)
+    → ((r ≡ r') × (given_back r ≡ given_back r')) × (grid₁ ≡ grid₂)
+heap-volume s xs ys zs grid r r' grid₁ grid₂ e e' = (same-given e.answer e'.answer, same_outcome e.grids e'.grids)

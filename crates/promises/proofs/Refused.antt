@@ -12,15 +12,15 @@ use Rattle.calls.specs.Refusals.{picture_rows, search_rows, penalty_rows, out_ro
 use Rattle.calls.proofs.Rows.{table-numbered}
 use Rattle.pictures.specs.Picture.{pixel_of}
 use Rattle.pictures.specs.Bilinear.{clamped, place_of, blended, value_at, sample_of}
-use Rattle.maps.specs.Map.{good_size, inside, got_at, valid_at, valids, valid_count, widen, widens, valid_range, inner_valids, cover_of}
+use Rattle.maps.specs.Map.{good_size, inside, got_at, valid_at, valid_count, widen, valid_range, inner_valids, cover_of}
 use Rattle.points.specs.Point.{is_positive, point_of, good_camera, good_baseline}
-use Rattle.points.specs.Records.{points_in, filled_for}
+use Rattle.points.specs.Records.{filled_for}
 use Rattle.sheets.specs.Number.{groups, number_bytes, take_groups, take_number}
 use Rattle.sheets.specs.Code.{kind_of, code_of, sheet_cell}
 use Rattle.sheets.specs.Sheet.{head_bytes, cells_bytes, kind_sheet, sheet_of, take_version, take_side, take_head, take_cell, take_cells, read_sheet}
 use Rattle.promises.specs.Witnesses.{Reached}
 
--- ---- document 01's table
+-- ---- the table of docs/SPECIFICATION.md
 module _ (q : Call) where
   -- THEOREM: its rows have these numbers, in this order: 13 stands straight after 10
   pub table-numbers : map (λ r. r.number) (table q) ≡ 1 ∷ 2 ∷ 3 ∷ 4 ∷ 5 ∷ 6 ∷ 7 ∷ 8 ∷ 9 ∷ 10 ∷ 13 ∷ 11 ∷ 12 ∷ []
@@ -39,7 +39,7 @@ module _ (q : Call) where
 
 -- THEOREM: every number is answered for some call
 pub reached : Reached
-unfolding refusal table first_of picture_rows search_rows penalty_rows out_rows room_rows pixel_of sample_of value_at place_of clamped blended got_at valid_at valids valid_count widen widens valid_range inner_valids count_below sum_to cover_of point_of good_size inside filled_for good_camera good_baseline points_in is_positive mul div sum add sub neg of_int round size climb span units odd lt le eq is_nan of_bits of_fields to_unsigned sheet_of kind_sheet head_bytes cells_bytes number_bytes groups kind_of code_of sheet_cell whole to_signed read_sheet take_head take_version take_side take_cells take_cell take_number take_groups
+unfolding refusal table first_of picture_rows search_rows penalty_rows out_rows room_rows pixel_of sample_of value_at place_of clamped blended got_at valid_at valid_count widen valid_range inner_valids count_below sum_to cover_of point_of good_size inside filled_for good_camera good_baseline is_positive mul div sum add sub neg of_int round size climb span units odd lt le eq is_nan of_bits of_fields to_unsigned sheet_of kind_sheet head_bytes cells_bytes number_bytes groups kind_of code_of sheet_cell whole to_signed read_sheet take_head take_version take_side take_cells take_cell take_number take_groups
 reached = record {
   matches = refl;
   match-13 = refl;

@@ -3,14 +3,14 @@ use mathlib.Core.Path.{refl}
 use lib.Ieee.{lt}
 use Rattle.refusals.specs.Answered.{first_of}
 use Rattle.lists.specs.Lists.{list_of}
-use Rattle.maps.specs.Map.{good_size, inside, valids, lesser_of, greater_of, widen, widens}
+use Rattle.maps.specs.Map.{good_size, inside, widen}
 use Rattle.rows.specs.Index.{fresh_index}
 use Rattle.rows.specs.Runs.{run}
 use Rattle.promises.specs.RowWitnesses.{RowsReached}
 
 -- THEOREM: every number of a row index is answered for some map, index and edit, and four indexes are worked out
 pub rows-reached : RowsReached
-unfolding first_of lt list_of good_size inside valids lesser_of greater_of widen widens fresh_index run
+unfolding first_of lt list_of good_size inside widen fresh_index run
 rows-reached = record {
   of-23 = refl;
   of-28 = refl;

@@ -2,9 +2,8 @@
 use Rattle.std.specs.Prelude.{ℕ, ◌≡◌, List, [], ◌∷◌, ◌++◌}
 use Rattle.refusals.specs.Steps.{Or, is, refused}
 use Rattle.refusals.specs.Writes.{room_for, byte_count}
-use Rattle.refusals.specs.Given.{written_given}
 use Rattle.netpbm.specs.Outcome.{cells_for, size_of}
-use Rattle.netpbm.specs.Given.{Sides, size_given}
+use Rattle.netpbm.specs.declared.raster.Size.{Size}
 use Rattle.netpbm.specs.Pgm.{read_pgm}
 use Rattle.netpbm.specs.Pfm.{pfm_of, read_pfm}
 use Rattle.promises.specs.Floats.{one}
@@ -26,11 +25,11 @@ abbrev pub one_map : List ℕ
 one_map = pfm_header 49 49 48 ++ (0 ∷ 0 ∷ 128 ∷ 63 ∷ [])
 
 -- what is given back of a picture's bytes, and of a map's
-abbrev pub pgm_says : List ℕ → Or Sides
-pgm_says bytes = size_given (size_of (read_pgm bytes))
+abbrev pub pgm_says : List ℕ → Or Size
+pgm_says bytes = size_of (read_pgm bytes)
 
-abbrev pub pfm_says : List ℕ → Or Sides
-pfm_says bytes = size_given (size_of (read_pfm bytes))
+abbrev pub pfm_says : List ℕ → Or Size
+pfm_says bytes = size_of (read_pfm bytes)
 
 pub record FilesReached : Type 0 where
   -- a picture of one level: another magic number, a comment that does not end, a comment after the maximum, a maximum of 254, a width of
@@ -42,13 +41,13 @@ pub record FilesReached : Type 0 where
   pub pgm-43 : pgm_says (pgm_header 48 50 53 53) ≡ refused 43
   pub pgm-44 : pgm_says pgm_one ≡ refused 44
   pub pgm-44-over : pgm_says (pgm_one ++ (7 ∷ 7 ∷ [])) ≡ refused 44
-  pub pgm-45 : size_given (size_of (cells_for 2 (read_pgm (pgm_one ++ (7 ∷ []))))) ≡ refused 45
-  pub pgm-is : size_given (size_of (cells_for 1 (read_pgm (pgm_one ++ (7 ∷ []))))) ≡ is (record { width = 1; height = 1 })
+  pub pgm-45 : size_of (cells_for 2 (read_pgm (pgm_one ++ (7 ∷ [])))) ≡ refused 45
+  pub pgm-is : size_of (cells_for 1 (read_pgm (pgm_one ++ (7 ∷ [])))) ≡ is (record { width = 1; height = 1 })
   pub pgm-read : read_pgm (pgm_one ++ (7 ∷ [])) ≡ is (record { width = 1; height = 1; cells = 7 ∷ [] })
   -- the map of one cell: a cell too many, and an output of 15 bytes
-  pub write-23 : written_given (byte_count (pfm_of 1 1 (one ∷ one ∷ []))) ≡ refused 23
-  pub write-45 : written_given (byte_count (room_for 45 15 (pfm_of 1 1 (one ∷ [])))) ≡ refused 45
-  pub write-is : written_given (byte_count (room_for 45 16 (pfm_of 1 1 (one ∷ [])))) ≡ is 16
+  pub write-23 : byte_count (pfm_of 1 1 (one ∷ one ∷ [])) ≡ refused 23
+  pub write-45 : byte_count (room_for 45 15 (pfm_of 1 1 (one ∷ []))) ≡ refused 45
+  pub write-is : byte_count (room_for 45 16 (pfm_of 1 1 (one ∷ []))) ≡ is 16
   pub written : pfm_of 1 1 (one ∷ []) ≡ is one_map
   -- a map of one cell: another first line, a scale of zeros, a width of 0, a cell cut, a byte left over, and an output of two cells
   pub pfm-41 : pfm_says (80 ∷ 70 ∷ 10 ∷ []) ≡ refused 41
@@ -56,6 +55,6 @@ pub record FilesReached : Type 0 where
   pub pfm-43 : pfm_says (pfm_header 48 49 48) ≡ refused 43
   pub pfm-44 : pfm_says (pfm_header 49 49 48 ++ (0 ∷ 0 ∷ 128 ∷ [])) ≡ refused 44
   pub pfm-44-over : pfm_says (one_map ++ (0 ∷ [])) ≡ refused 44
-  pub pfm-45 : size_given (size_of (cells_for 2 (read_pfm one_map))) ≡ refused 45
-  pub pfm-is : size_given (size_of (cells_for 1 (read_pfm one_map))) ≡ is (record { width = 1; height = 1 })
+  pub pfm-45 : size_of (cells_for 2 (read_pfm one_map)) ≡ refused 45
+  pub pfm-is : size_of (cells_for 1 (read_pfm one_map)) ≡ is (record { width = 1; height = 1 })
   pub pfm-read : read_pfm one_map ≡ is (record { width = 1; height = 1; cells = one ∷ [] })

@@ -5,7 +5,7 @@ use Rattle.std.specs.Float.{fin, nan, inf, binary32, binary64}
 use Rattle.std.specs.Float.Ieee.{of_bits}
 use Rattle.refusals.specs.Steps.{Or, is, refused}
 use Rattle.refusals.specs.Writes.{byte_count}
-use Rattle.refusals.specs.Given.{number_back, written_given}
+use Rattle.refusals.specs.Given.{number_back}
 use Rattle.options.specs.declared.Mode.{Mode}
 use Rattle.options.specs.declared.Mode.TheVariants.{Block, SemiGlobal}
 use Rattle.calls.specs.declared.Call.{Call}
@@ -14,22 +14,18 @@ use Rattle.calls.specs.declared.Output.TheVariants.{Volume, Map}
 use Rattle.calls.specs.Refusals.{refusal}
 use Rattle.refusals.specs.Answered.{first_of}
 use Rattle.refusals.specs.Outcome.{answer_for}
-use Rattle.pictures.specs.declared.Level.TheVariants as level
 use Rattle.pictures.specs.Picture.{level_rows}
-use Rattle.pictures.specs.Given.{level_given}
 use Rattle.maps.specs.declared.Cell.TheVariants.{Mark}
 use Rattle.maps.specs.Map.{good_size, inside, cover_rows}
 use Rattle.points.specs.declared.Intrinsics.{Intrinsics}
 use Rattle.points.specs.Records.{filled_for}
-use Rattle.points.specs.Given.{filled_given}
 use Rattle.rows.specs.Index.{fresh_refusal, edit_refusal}
 use Rattle.sheets.specs.declared.code.Kind.TheVariants.{Whole}
 use Rattle.sheets.specs.Sheet.{sheet_of, take_head, read_sheet}
-use Rattle.sheets.specs.Outcome.{size_said}
 use Rattle.sheets.specs.Given.{said_given}
+use Rattle.sheets.specs.Outcome.{size_said}
 use Rattle.volume.specs.Metres.{good_coordinate}
 use Rattle.volume.specs.Outcome as volume
-use Rattle.volume.specs.Given.{shape_given, heap_given}
 use Rattle.promises.specs.FileWitnesses.{pgm_says, pfm_says}
 use Rattle.promises.specs.Floats.{plus_zero, minus_zero, one, two}
 
@@ -93,7 +89,7 @@ lending output mode out whole float = call_of output mode 5 3 (pos 0) (pos 2) 3 
 
 -- what is given back of its first pixel, whose level is 7, for a byte count, a width and a height
 abbrev first_pixel : ℕ → ℕ → ℕ → Or ℕ
-first_pixel bytes w h = level_given (answer_for (first_of (level_rows bytes w h 0 0)) level.Refused (level.At 7))
+first_pixel bytes w h = answer_for (first_of (level_rows bytes w h 0 0)) 7
 
 -- ---- points
 
@@ -106,7 +102,7 @@ camera_of baseline = record { fx = one; fy = one; cx = one; cy = one; baseline =
 -- what is given back of a site: 0 where it is accepted
 abbrev site_number : ℤ → ℤ → ℤ → ℤ → ℕ → ℤ → ℕ
 site_number left right top bottom cell floor =
-    number_back (shape_given (volume.grid_shape (record { left = left; right = right; top = top; bottom = bottom; cell = cell; floor = floor })))
+    number_back (volume.grid_shape (record { left = left; right = right; top = top; bottom = bottom; cell = cell; floor = floor }))
 
 -- of a square that is one cell of that side
 abbrev cell_number : ℕ → ℕ
@@ -130,7 +126,7 @@ floor_number z = site_number (minus 100000) (pos 100000) (minus 100000) (pos 100
 
 -- what is given back for a grid of m cells beside a site of two
 abbrev grid_number : ℕ → ℕ
-grid_number m = number_back (heap_given (volume.heap_of (record { left = pos 0; right = pos 1000; top = pos 0; bottom = pos 500; cell = 500; floor = pos 0 }) [] [] [] m))
+grid_number m = number_back (volume.heap_of (record { left = pos 0; right = pos 1000; top = pos 0; bottom = pos 500; cell = 500; floor = pos 0 }) [] [] [] m)
 
 -- ---- files
 
@@ -153,7 +149,7 @@ digits2049 = 50 ∷ 48 ∷ 52 ∷ 57 ∷ []
 
 -- what is given back for the sheet of one cell in kind 0: its byte count
 abbrev whole_sheet_cell : Float → Or ℕ
-whole_sheet_cell x = written_given (byte_count (sheet_of 0 1 1 (x ∷ [])))
+whole_sheet_cell x = byte_count (sheet_of 0 1 1 (x ∷ []))
 
 -- EVERY LIMIT, on both sides
 pub record LimitsHeld : Type 0 where
@@ -204,9 +200,9 @@ pub record LimitsHeld : Type 0 where
   pub records : map (λ m. fresh_refusal 2048 2048 4194304 m) (2047 ∷ 2048 ∷ 2049 ∷ []) ≡ 28 ∷ 0 ∷ 28 ∷ []
   pub edits : map (λ x. edit_refusal 2048 2048 4194304 2048 (record { x = x; y = 2047; value = Mark })) (2047 ∷ 2048 ∷ []) ≡ 0 ∷ 26 ∷ []
   -- points: a baseline of 1e-12, and the next f64; a list of no record and of one for one point
-  pub baselines : map (λ b. filled_given (filled_for 1 1 (one ∷ []) (camera_of b) 1)) (of_bits binary64 0x3d719799812dea11 ∷ of_bits binary64 0x3d719799812dea12 ∷ [])
+  pub baselines : map (λ b. filled_for 1 1 (one ∷ []) (camera_of b) 1) (of_bits binary64 0x3d719799812dea11 ∷ of_bits binary64 0x3d719799812dea12 ∷ [])
       ≡ refused 22 ∷ is 1 ∷ []
-  pub lists : map (λ m. filled_given (filled_for 1 1 (one ∷ []) (camera_of one) m)) (0 ∷ 1 ∷ []) ≡ refused 24 ∷ is 1 ∷ []
+  pub lists : map (λ m. filled_for 1 1 (one ∷ []) (camera_of one) m) (0 ∷ 1 ∷ []) ≡ refused 24 ∷ is 1 ∷ []
   -- a sheet's cells in kind 0: -8,193, -8,192, 8,192 and 8,193, written; and the number of 8,192 and the next, read
   pub whole_cells : map whole_sheet_cell (fin true 8193 (pos 0) ∷ fin true 1 (pos 13) ∷ fin false 1 (pos 13) ∷ fin false 8193 (pos 0) ∷ []) ≡ refused 32 ∷ is 7 ∷ is 7 ∷ refused 32 ∷ []
   pub whole-read : read_sheet (1 ∷ 0 ∷ 1 ∷ 1 ∷ 0x81 ∷ 0x80 ∷ 0x01 ∷ []) ≡ is (record { kind = Whole; width = 1; height = 1; cells = fin false 1 (pos 13) ∷ [] })

@@ -1,12 +1,10 @@
 -- A map, an index and an edit for each number that can be answered of a row index. Definitions only.
-use Rattle.std.specs.Prelude.{ℕ, ◌≡◌, true, false, List, [], ◌∷◌, Float}
-use Rattle.std.proofs.Math.Option.{none, some}
+use Rattle.std.specs.Prelude.{Some, None, ℕ, ◌≡◌, true, false, List, [], ◌∷◌, Float}
 use Rattle.std.specs.Float.{nan, inf}
 use Rattle.maps.specs.declared.Cell.{Cell}
 use Rattle.maps.specs.declared.Cell.TheVariants.{Mark, At}
 use Rattle.rows.specs.declared.RowRecord.{RowRecord}
 use Rattle.rows.specs.declared.Edit.{Edit}
-use Rattle.maps.specs.Given.{range_given}
 use Rattle.rows.specs.Index.{range_in, fresh_index, fresh_refusal, edit_refusal}
 use Rattle.rows.specs.Runs.{fresh, run}
 use Rattle.promises.specs.Floats.{minus_one, two, five}
@@ -40,5 +38,5 @@ pub record RowsReached : Type 0 where
   pub emptied : (run 3 2 (fresh 3 2 six_cells) (at 0 0 Mark ∷ at 2 0 Mark ∷ [])).index ≡ row_is 0 nan nan ∷ row_is 2 minus_one minus_one ∷ []
   pub filled : (run 3 2 (fresh 3 2 six_cells) (at 1 0 (At minus_one) ∷ at 1 1 (At (inf true)) ∷ [])).index ≡ row_is 3 minus_one five ∷ row_is 1 minus_one minus_one ∷ []
   -- the range that a record holds: none where no cell is valid
-  pub range_none : range_given (range_in (row_is 0 nan nan)) ≡ none
-  pub range-is : range_given (range_in (row_is 2 two five)) ≡ some (record { least = two; greatest = five })
+  pub range_none : range_in (row_is 0 nan nan) ≡ None
+  pub range-is : range_in (row_is 2 two five) ≡ Some (record { least = two; greatest = five })

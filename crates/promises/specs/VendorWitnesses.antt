@@ -7,9 +7,9 @@ use Rattle.calls.specs.declared.Call.{Call}
 use Rattle.refusals.specs.Steps.{Or, is, refused}
 use Rattle.vendor.specs.Verdict.{check_of, verdict_of}
 use Rattle.refusals.specs.Outcome.{answer_for}
-use Rattle.vendor.specs.declared.Verdict.TheVariants.{Yes, Refused}
+use Rattle.vendor.specs.declared.Verdict.{Verdict}
+use Rattle.vendor.specs.declared.Verdict.TheVariants.{Yes, No}
 use Rattle.vendor.specs.Outcome.{vendor_call, vendor_refusal}
-use Rattle.vendor.specs.Given.{YesNo, yes, no, verdict_given}
 use Rattle.promises.specs.Floats.{plus_zero, minus_zero, half, one, minus_one, two}
 
 -- the first disparity, the count, the block's side and the least correlation; the rest as where none are given
@@ -33,8 +33,8 @@ abbrev pub asked : ℕ → ℕ → List ℕ → ℤ → ℤ → ℕ → ℕ → 
 asked w h right first count block room = vendor_call (replicate 9 0) w h right 3 3 (searching first count block half) room
 
 -- what is given back of a call that is refused, for a map of n cells, so wide and so high: no level and no cell is looked at
-abbrev pub refusing : Call → ℕ → ℕ → ℕ → Or YesNo
-refusing q w h n = verdict_given (answer_for (vendor_refusal q w h n) Refused Yes)
+abbrev pub refusing : Call → ℕ → ℕ → ℕ → Or Verdict
+refusing q w h n = answer_for (vendor_refusal q w h n) Yes
 
 -- three rows alike
 abbrev pub thrice : {A : Type 0} → List A → List A
@@ -52,15 +52,15 @@ abbrev pub middle : List Float → List Float
 middle row = replicate 5 nan ++ row ++ replicate 5 nan
 
 -- the verdict on such a map, with disparities 0 and 1, block 3 and a least correlation
-abbrev pub judged : Float → List Float → Or YesNo
-judged least map = verdict_given (verdict_of (check_of 5 3 (searching (pos 0) (pos 2) 3 least)) left right map)
+abbrev pub judged : Float → List Float → Or Verdict
+judged least map = is (verdict_of (check_of 5 3 (searching (pos 0) (pos 2) 3 least)) left right map)
 
 -- 5 by 3, every other column alike: in column 3 disparities 0 and 2 show the same
 abbrev pub striped : List ℕ
 striped = thrice (10 ∷ 20 ∷ 10 ∷ 20 ∷ 10 ∷ [])
 
-abbrev pub tied : List Float → Or YesNo
-tied map = verdict_given (verdict_of (check_of 5 3 (searching (pos 0) (pos 3) 3 half)) striped striped map)
+abbrev pub tied : List Float → Or Verdict
+tied map = is (verdict_of (check_of 5 3 (searching (pos 0) (pos 3) 3 half)) striped striped map)
 
 pub record VendorsReached : Type 0 where
   -- each refusal, where those after it apply too
@@ -80,22 +80,22 @@ pub record VendorsReached : Type 0 where
   pub of-12 : refusing (asked 3 3 (replicate 9 0) (pos 0) (pos 2) 3 79) 3 3 9 ≡ refused 12
   pub accepted : vendor_refusal (asked 3 3 (replicate 9 0) (pos 0) (pos 2) 3 80) 3 3 9 ≡ 0
   -- what is right, a blank map, and a cell that is infinite, which is not valid
-  pub right-one : judged half (middle (nan ∷ nan ∷ one ∷ one ∷ nan ∷ [])) ≡ is yes
-  pub blank-one : judged half (middle (replicate 5 nan)) ≡ is yes
-  pub infinite : judged half (middle (inf false ∷ nan ∷ one ∷ nan ∷ nan ∷ [])) ≡ is yes
+  pub right-one : judged half (middle (nan ∷ nan ∷ one ∷ one ∷ nan ∷ [])) ≡ is Yes
+  pub blank-one : judged half (middle (replicate 5 nan)) ≡ is Yes
+  pub infinite : judged half (middle (inf false ∷ nan ∷ one ∷ nan ∷ nan ∷ [])) ≡ is Yes
   -- beaten by the other index; blank, because the target's window leaves the picture; below the least correlation, and with a lower one not
-  pub beaten : judged minus_one (middle (nan ∷ nan ∷ plus_zero ∷ one ∷ nan ∷ [])) ≡ is (no 2 1)
-  pub no-cost : judged minus_one (middle (nan ∷ one ∷ one ∷ one ∷ nan ∷ [])) ≡ is (no 1 1)
-  pub below : judged half (middle (nan ∷ plus_zero ∷ plus_zero ∷ one ∷ nan ∷ [])) ≡ is (no 1 1)
-  pub enough : judged minus_one (middle (nan ∷ plus_zero ∷ one ∷ one ∷ nan ∷ [])) ≡ is yes
-  pub minus-zero : judged minus_one (middle (nan ∷ minus_zero ∷ one ∷ one ∷ nan ∷ [])) ≡ is yes
+  pub beaten : judged minus_one (middle (nan ∷ nan ∷ plus_zero ∷ one ∷ nan ∷ [])) ≡ is (No 2 1)
+  pub no-cost : judged minus_one (middle (nan ∷ one ∷ one ∷ one ∷ nan ∷ [])) ≡ is (No 1 1)
+  pub below : judged half (middle (nan ∷ plus_zero ∷ plus_zero ∷ one ∷ nan ∷ [])) ≡ is (No 1 1)
+  pub enough : judged minus_one (middle (nan ∷ plus_zero ∷ one ∷ one ∷ nan ∷ [])) ≡ is Yes
+  pub minus-zero : judged minus_one (middle (nan ∷ minus_zero ∷ one ∷ one ∷ nan ∷ [])) ≡ is Yes
   -- no disparity of the searched range, and no whole one; a pixel whose own window leaves the picture
-  pub beyond : judged half (middle (nan ∷ nan ∷ one ∷ two ∷ nan ∷ [])) ≡ is (no 3 1)
-  pub between : judged half (middle (nan ∷ nan ∷ one ∷ half ∷ nan ∷ [])) ≡ is (no 3 1)
-  pub at-the-edge : judged half (middle (nan ∷ nan ∷ one ∷ one ∷ one ∷ [])) ≡ is (no 4 1)
+  pub beyond : judged half (middle (nan ∷ nan ∷ one ∷ two ∷ nan ∷ [])) ≡ is (No 3 1)
+  pub between : judged half (middle (nan ∷ nan ∷ one ∷ half ∷ nan ∷ [])) ≡ is (No 3 1)
+  pub at-the-edge : judged half (middle (nan ∷ nan ∷ one ∷ one ∷ one ∷ [])) ≡ is (No 4 1)
   -- no number is below a least correlation that is not one
-  pub no-least : judged nan (middle (nan ∷ plus_zero ∷ one ∷ one ∷ nan ∷ [])) ≡ is yes
+  pub no-least : judged nan (middle (nan ∷ plus_zero ∷ one ∷ one ∷ nan ∷ [])) ≡ is Yes
   -- a tie passes either way; the odd disparity does not
-  pub tie-small : tied (middle (nan ∷ nan ∷ nan ∷ plus_zero ∷ nan ∷ [])) ≡ is yes
-  pub tie-large : tied (middle (nan ∷ nan ∷ nan ∷ two ∷ nan ∷ [])) ≡ is yes
-  pub not-tied : tied (middle (nan ∷ nan ∷ nan ∷ one ∷ nan ∷ [])) ≡ is (no 3 1)
+  pub tie-small : tied (middle (nan ∷ nan ∷ nan ∷ plus_zero ∷ nan ∷ [])) ≡ is Yes
+  pub tie-large : tied (middle (nan ∷ nan ∷ nan ∷ two ∷ nan ∷ [])) ≡ is Yes
+  pub not-tied : tied (middle (nan ∷ nan ∷ nan ∷ one ∷ nan ∷ [])) ≡ is (No 3 1)

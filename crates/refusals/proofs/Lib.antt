@@ -2,6 +2,7 @@
 pub mod Answering
 pub mod Cases
 pub mod Groups
+pub mod Numbers
 pub mod Outcomes
 pub mod Stepwise
 pub mod Writes

@@ -2,7 +2,7 @@
 // cells differ. A map that is refused, or a file that is cut, counts as a difference.
 #![tactic(auto)]
 
-ghost use Rattle.std.specs.Prelude.{◌+◌, ◌*◌, ◌≤◌, ◌<◌, length};
+ghost use Rattle.std.specs.Prelude.{◌+◌, ◌*◌, ◌≤◌, length, IfSome};
 
 use matching::match_block;
 use options::{BlockMatchOptions, Mode};
@@ -14,192 +14,157 @@ const HEAD: usize = 28;
 // The bytes of a file that are read.
 const READ_MOST: usize = 65536;
 
-// How far the replay has come.
+// A case of the file, and what follows it.
+#[derive(Clone, Copy)]
+struct Case<'a> {
+    w: usize,
+    h: usize,
+    opts: BlockMatchOptions,
+    left: &'a [u8],
+    right: &'a [u8],
+    answers: &'a [u8],
+    rest: &'a [u8],
+}
+
+// How many maps and cells were compared, and how many cells differ.
+#[derive(Clone, Copy)]
+struct Tally {
+    maps: usize,
+    cells: usize,
+    differ: usize,
+}
+
+// The cells of the largest map, 24 by 16, and the rooms for its match with 8 disparities.
 #[derive(Drop)]
-pub struct Tally {
-    pub maps: usize,
-    pub cells: usize,
-    pub differ: usize,
-    pub at: usize,
+struct Rooms {
+    cells: [f32; 384],
+    whole: [u64; 2125],
+    float: [f32; 9600],
 }
 
-fn byte(bytes: &[u8], at: usize) -> usize
-    requires { at < length bytes.now }
-    ensures { result < 256 }
-{
-    bytes[at] as usize
+impl Rooms {
+    fn new() -> Rooms {
+        Rooms {
+            cells: [0.0; 384],
+            whole: [0; 2125],
+            float: [0.0; 9600],
+        }
+    }
 }
 
-// Four bytes as a number, the low one first.
-fn word(bytes: &[u8], at: usize) -> usize
-    requires { at + 4 ≤ length bytes.now }
-    ensures { result < 4294967296 }
+// The float with a pattern, the low byte first; a NaN's reads as 0, and the sample has none.
+fn number(head: &[u8; HEAD], at: usize) -> f32
+    requires { at + 4 ≤ 28 }
 {
-    let low = byte(bytes, at) + 256 * byte(bytes, at + 1);
-    let high = byte(bytes, at + 2) + 256 * byte(bytes, at + 3);
-    low + 65536 * high
-}
-
-// The float with a pattern; a NaN's reads as 0, and the sample has none.
-fn number(bytes: &[u8], at: usize) -> f32
-    requires { at + 4 ≤ length bytes.now }
-{
-    let bits = word(bytes, at);
+    let bits = u32::from_le_bytes([head[at], head[at + 1], head[at + 2], head[at + 3]]);
     if 0x7F80_0000 < bits % 0x8000_0000 {
         return 0.0;
     }
-    f32::from_bits(bits as u32)
+    f32::from_bits(bits)
 }
 
-// Two bytes as a signed number, the low one first.
-fn signed(bytes: &[u8], at: usize) -> i32
-    requires { at + 2 ≤ length bytes.now }
-{
-    let value = byte(bytes, at) + 256 * byte(bytes, at + 1);
-    if value < 32768 {
-        value as i32
-    } else {
-        value as i32 - 65536
-    }
-}
-
-// The options of the case at `at`.
-fn options_at(bytes: &[u8], at: usize) -> BlockMatchOptions
-    requires { at + 28 ≤ length bytes.now }
-{
-    let flags = byte(bytes, at + 6);
+// The options of a case.
+fn options_of(head: &[u8; HEAD]) -> BlockMatchOptions {
+    let flags = head[6];
     BlockMatchOptions {
-        min_disparity: signed(bytes, at + 4),
-        num_disparities: byte(bytes, at + 2) as i32,
-        block_size: byte(bytes, at + 3),
-        min_correlation: number(bytes, at + 8),
-        uniqueness_ratio: number(bytes, at + 12),
+        min_disparity: i32::from(i16::from_le_bytes([head[4], head[5]])),
+        num_disparities: i32::from(head[2]),
+        block_size: usize::from(head[3]),
+        min_correlation: number(head, 8),
+        uniqueness_ratio: number(head, 12),
         lr_consistency: flags / 2 % 2 == 1,
-        lr_max_diff: number(bytes, at + 16),
+        lr_max_diff: number(head, 16),
         subpixel: flags / 4 % 2 == 1,
         mode: Mode::of_flag(flags % 2 == 1),
-        sgm_p1: number(bytes, at + 20),
-        sgm_p2: number(bytes, at + 24),
+        sgm_p1: number(head, 20),
+        sgm_p2: number(head, 24),
     }
 }
 
-// The pattern of a cell, and of every NaN that of the mark.
-fn pattern(x: f32) -> usize {
-    if x != x {
-        return 0x7FC0_0000;
-    }
-    f32::to_bits(x) as usize
-}
-
-// How many of the cells differ from the patterns that stand from `at` on.
-fn differing(cells: &[f32], bytes: &[u8], at: usize) -> usize
-    requires { at + 4 * length cells.now ≤ length bytes.now }
-    ensures { result ≤ length cells.now }
+// The case at the front of the bytes, where a whole one stands there.
+fn read_case(bytes: &[u8]) -> Option<Case>
+    ensures { IfSome result (λ c. (c.w * c.h ≤ 384) × (c.w * c.h + 1 + length c.rest.now ≤ length bytes.now)) }
 {
-    let mut differ: usize = 0;
-    let mut i = 0;
-    while i < cells.len() {
-        if pattern(cells[i]) != word(bytes, at + 4 * i) {
-            differ += 1;
-        }
-        i += 1;
+    let (head, rest) = bytes.split_first_chunk::<HEAD>()?;
+    let w = usize::from(head[0]);
+    let h = usize::from(head[1]);
+    if 24 < w || 16 < h {
+        return None;
     }
-    differ
-}
-
-// Matches the pair of the case at `at`, of w by h pixels, and counts the cells that differ from the answer.
-fn replay_case(
-    bytes: &[u8],
-    at: usize,
-    w: usize,
-    h: usize,
-    cells: &mut [f32],
-    whole: &mut [u64],
-    float: &mut [f32],
-) -> usize
-    requires h_in_bounds { at + 28 + 6 * (w * h) ≤ length bytes.now }
-    requires h_in_bounds_2 { w * h ≤ length cells.old }
-    ensures { result ≤ w * h }
-{
     let size = w * h;
-    let left = at + HEAD;
-    let right = left + size;
-    let answers = right + size;
-    let opts = options_at(bytes, at);
-    let refused = match_block(
-        &bytes[left..right],
-        w,
-        h,
-        &bytes[right..answers],
+    let (left, rest) = rest.split_at_checked(size)?;
+    let (right, rest) = rest.split_at_checked(size)?;
+    let (answers, rest) = rest.split_at_checked(4 * size)?;
+    let opts = options_of(head);
+    Some(Case {
         w,
         h,
         opts,
-        &mut cells[..size],
-        whole,
-        float,
-    );
-    if refused != 0 {
-        return size;
-    }
-    differing(&cells[..size], bytes, answers)
+        left,
+        right,
+        answers,
+        rest,
+    })
 }
 
-// The case at the tally's place, or the end of the file with one more difference where no case stands there.
-fn next(
-    tally: Tally,
-    bytes: &[u8],
-    cells: &mut [f32],
-    whole: &mut [u64],
-    float: &mut [f32],
-) -> Tally
-    requires in_bounds { 384 ≤ length cells.old }
-    requires bytes_len_bound { length bytes.now ≤ 65536 }
-    requires at_in_bounds { (tally.at < length bytes.now) × (tally.cells ≤ tally.at) × (tally.maps ≤ tally.at) × (tally.differ ≤ tally.at) }
-    ensures { (tally.at < result.at) × (result.at ≤ length bytes.now) × (result.cells ≤ result.at) × (result.maps ≤ result.at) × (result.differ ≤ result.at) }
+// The pattern of a cell, and of every NaN that of the mark.
+fn pattern(x: f32) -> u32 {
+    if x != x { 0x7FC0_0000 } else { f32::to_bits(x) }
+}
+
+// Whether the match of a case is accepted.
+fn is_matched(case: Case, map: &mut [f32], whole: &mut [u64], float: &mut [f32]) -> bool {
+    match_block(
+        case.left, case.w, case.h, case.right, case.w, case.h, case.opts, map, whole, float,
+    )
+    .is_ok()
+}
+
+// How many of the cells differ from the patterns that were answered.
+fn differing(map: &[f32], answers: &[u8]) -> usize
+    ensures { result ≤ length map.now }
 {
-    let at = tally.at;
-    let cut = Tally {
-        maps: tally.maps,
-        cells: tally.cells,
-        differ: tally.differ + 1,
-        at: bytes.len(),
-    };
-    if bytes.len() - at < HEAD {
-        return cut;
-    }
-    let w = byte(bytes, at);
-    let h = byte(bytes, at + 1);
-    if 24 < w {
-        return cut;
-    }
-    if 16 < h {
-        return cut;
-    }
-    if bytes.len() - at - HEAD < 6 * (w * h) {
-        return cut;
-    }
-    let differ = replay_case(bytes, at, w, h, cells, whole, float);
-    Tally {
-        maps: tally.maps + 1,
-        cells: tally.cells + w * h,
-        differ: tally.differ + differ,
-        at: at + HEAD + 6 * (w * h),
+    let (answers, _) = answers.as_chunks::<4>();
+    map.iter()
+        .zip(answers)
+        .filter(|(x, answer)| pattern(**x) != u32::from_le_bytes(**answer))
+        .count()
+}
+
+// Matches the pair of a case, and counts the cells that differ from the answer.
+fn replay_case(case: Case, rooms: &mut Rooms) -> usize
+    requires { case.w * case.h ≤ 384 }
+    ensures { result ≤ case.entry.w * case.entry.h }
+{
+    let cells: &mut [f32] = &mut rooms.cells;
+    let map = &mut cells[..case.w * case.h];
+    if is_matched(case, map, &mut rooms.whole, &mut rooms.float) {
+        differing(map, case.answers)
+    } else {
+        map.len()
     }
 }
 
-// All cases.
-fn replay(bytes: &[u8], cells: &mut [f32], whole: &mut [u64], float: &mut [f32]) -> Tally
-    requires in_bounds { 384 ≤ length cells.old }
-    requires bytes_len_bound { length bytes.now ≤ 65536 }
+// All cases. Where no whole case stands, there is one more difference, and the end.
+fn replay(bytes: &[u8], rooms: &mut Rooms) -> Tally
+    requires { length bytes.now ≤ 65536 }
 {
     let mut tally = Tally {
         maps: 0,
         cells: 0,
         differ: 0,
-        at: 0,
     };
-    while tally.at < bytes.len() {
-        tally = next(tally, bytes, cells, whole, float);
+    let mut rest = bytes;
+    // cases differ in length
+    while !rest.is_empty() {
+        let Some(case) = read_case(rest) else {
+            tally.differ += 1;
+            return tally;
+        };
+        tally.maps += 1;
+        tally.cells += case.w * case.h;
+        tally.differ += replay_case(case, rooms);
+        rest = case.rest;
     }
     tally
 }
@@ -207,10 +172,8 @@ fn replay(bytes: &[u8], cells: &mut [f32], whole: &mut [u64], float: &mut [f32])
 fn main(rt: HostRuntime) -> io::Result<()> {
     let bytes = fs::read(&rt, "answers.bin")?;
     let n = bytes.len().min(READ_MOST);
-    let mut cells = [0.0f32; 384];
-    let mut whole = [0u64; 2125];
-    let mut float = [0.0f32; 9600];
-    let tally = replay(&bytes[..n], &mut cells, &mut whole, &mut float);
+    let mut rooms = Rooms::new();
+    let tally = replay(&bytes[..n], &mut rooms);
     let maps = tally.maps;
     let compared = tally.cells;
     let differ = tally.differ;

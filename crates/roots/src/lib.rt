@@ -7,15 +7,14 @@ ghost use Rattle.roots.specs.Pattern.{root_pattern};
 use numbers::root::root;
 
 // The bit pattern of the root of n, for n from 1 to 2^53, and else 0.
+#[tactic(auto, unfolding(crate::specs::Pattern::root_pattern))]
 #[unsafe(no_mangle)]
 pub extern "C" fn root_pattern(n: u64) -> u64
     ensures { result ≡ root_pattern n }
 {
-    if n == 0 {
-        return 0;
+    if (1..=0x20_0000_0000_0000).contains(&n) {
+        f64::to_bits(root(n))
+    } else {
+        0
     }
-    if 0x20_0000_0000_0000 < n {
-        return 0;
-    }
-    f64::to_bits(root(n))
 }

@@ -1,20 +1,19 @@
 -- What a call that is not refused has: a map of a good size, an index of its height, and for an edit a cell inside. Assumes nothing.
-use mathlib.Core.Path.{◌≡◌}
-use Prim.Native.Nat.{ℕ, ◌+◌, ◌*◌, ◌≤◌, ◌<◌}
+use mathlib.Core.Path.{◌≡◌, sym, ◌∙◌}
+use Prim.Native.Nat.{ℕ, ◌+◌, ◌*◌, ◌^◌, ◌≤◌, ◌<◌}
 use native.Mathlib.Omega.{arith}
 use mathlib.Core.Bool.{true}
 use borrow.Author.Tests.{eqb-true, ltb-true, not-false}
-use mathlib.Core.List.{List}
-use lib.ListN.{length, length-set}
-use lib.Dec.{eqb, ltb}
-use lib.Ieee.{Float}
+use lib.Dec.{eqb, ltb, lit<}
 use Rattle.lists.proofs.Tests.{and_both}
 use Rattle.lists.proofs.Rows.{pixel-in, row_in}
+use Rattle.refusals.specs.Answered.{first_of}
 use Rattle.refusals.proofs.Answering.{none_of}
-use Rattle.maps.specs.Map.{good_size, inside}
-use Rattle.maps.proofs.Facts.{Good, good}
+use Rattle.refusals.proofs.Groups.{by-rest}
+use Rattle.maps.specs.Map.{good_size, inside, size_rows, pixel_rows}
+use Rattle.maps.proofs.Facts.{Good, good, pixels-small}
 use Rattle.rows.specs.declared.Edit.{Edit}
-use Rattle.rows.specs.Index.{fresh_rows, fresh_refusal, edit_rows, edit_refusal, edited}
+use Rattle.rows.specs.Index.{index_rows, fresh_rows, fresh_refusal, edit_rows, edit_refusal}
 use Rattle.rows.proofs.Refusing.{fresh-numbered, edit-numbered}
 
 -- an index of m records fits a map of n cells
@@ -28,6 +27,11 @@ pub record EditFits (w h n m : ℕ) (e : Edit) : Type 0 where
   pub both : Fits w h n m
   pub across : e.x < w
   pub down : e.y < h
+
+-- its cell lies among n cells, which are few
+pub record Placed (w n : ℕ) (e : Edit) : Type 0 where
+  pub there : e.y * w + e.x < n
+  pub few : n < 2 ^ 32
 
 module _ (w h n m : ℕ) where
   fits : good_size w h n ≡ true → eqb m h ≡ true → Fits w h n m
@@ -50,13 +54,23 @@ module _ (w h n m : ℕ) where
           down = ltb-true e.y h within.1;
         }
 
-    -- the cell of an edit that fits, and its row, are among the map's
-    pub cell-there : EditFits w h n m e → e.y * w + e.x < n
-    cell-there f = omega (arith, pixel-in w h e.x e.y f.across f.down, f.both.size.long)
+    -- the cell of an edit that fits is among the map's, and so is its row
+    pub cell-there : EditFits w h n m e → Placed w n e
+    cell-there f = record {
+      there = omega (arith, pixel-in w h e.x e.y f.across f.down, f.both.size.long);
+      few = omega (arith, f.both.size.long, pixels-small w h f.both.size.narrow f.both.size.low);
+    }
 
     pub row-there : EditFits w h n m e → e.y * w + w ≤ n
     row-there f = row_in e.y h w n f.down (omega (arith, f.both.size.long))
 
--- an edit takes no cell away
-pub still-there : (w : ℕ) (cells cells' : List Float) (e : Edit) (k : ℕ) → cells' ≡ edited w cells e → k ≤ length cells → k ≤ length cells'
-still-there w cells cells' e k stored there = rw (stored, length-set) there
+-- what the two tests of a call say together
+module _ (w h n m : ℕ) (index : 0 ≡ first_of (index_rows h m)) where
+  pub fresh-none : 0 ≡ first_of (size_rows w h n) → fresh_refusal w h n m ≡ 0
+  fresh-none size = by-rest (size_rows w h n) (index_rows h m) (lit< tt, tt) (sym size) ∙ sym index
+
+  pub fresh-tested : 0 ≡ first_of (size_rows w h n) → Fits w h n m
+  fresh-tested size = fresh-fits w h n m (fresh-none size)
+
+  pub edit-tested : (e : Edit) → 0 ≡ first_of (pixel_rows w h n e.x e.y) → EditFits w h n m e
+  edit-tested e pixel = edit-fits w h n m e (by-rest (pixel_rows w h n e.x e.y) (index_rows h m) (lit< tt, (lit< tt, tt)) (sym pixel) ∙ sym index)

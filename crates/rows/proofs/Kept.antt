@@ -13,7 +13,7 @@ use Rattle.lists.proofs.Rows.{row-set-other}
 use Rattle.refusals.specs.Answered.{first_of}
 use Rattle.refusals.specs.Outcome.{after}
 use Rattle.refusals.proofs.Cases.{after_none}
-use Rattle.maps.specs.declared.Got.TheVariants as got
+use Rattle.refusals.specs.Steps.{is}
 use Rattle.maps.specs.Cells.{in_buffer, cell_of}
 use Rattle.maps.specs.Map.{good_size, inside, got_at}
 use Rattle.maps.proofs.Facts.{got_in}
@@ -53,13 +53,13 @@ module _ (w h : ℕ) (cells : List Float) where
     cells-length = length-stays cells (e.y * w + e.x) _ (edit_refusal w h (length cells) m e)
 
     -- THEOREM: the cell of an edit that is accepted reads as the edit's
-    pub edit-read : edit_refusal w h (length cells) m e ≡ 0 → got_at w h (cells_after w h cells m e) e.x e.y ≡ got.Cell (cell_of (in_buffer e.value))
+    pub edit-read : edit_refusal w h (length cells) m e ≡ 0 → got_at w h (cells_after w h cells m e) e.x e.y ≡ is (cell_of (in_buffer e.value))
     edit-read z =
         let f = edit-fits w h (length cells) m e z in
         let size : good_size w h (length (edited w cells e)) ≡ true = rw length-set f.both.tested in
         ap (λ l. got_at w h l e.x e.y) (after_none _ _ _ z)
         ∙ got_in w h (edited w cells e) size e.x e.y f.across f.down
-        ∙ ap (λ v. got.Cell (cell_of v)) (get_or-set_same cells (e.y * w + e.x) _ nan (cell-there w h (length cells) m e f))
+        ∙ ap (λ v. is (cell_of v)) (get_or-set_same cells (e.y * w + e.x) _ nan (cell-there w h (length cells) m e f).there)
 
 -- ---- beside a fresh index
 

@@ -1,26 +1,25 @@
 -- The index beside a map: one record per row, and what a fresh index and an edit answer and leave
 -- (docs/SPECIFICATION.md, "Row index"). Definitions only.
-use Rattle.std.specs.Prelude.{ℕ, ◌+◌, ◌*◌, ◌≡◌, not, cond, List, [], ◌∷◌, ◌++◌, length, set, eqb, Float}
+use Rattle.std.specs.Prelude.{ℕ, ◌+◌, ◌*◌, ◌≡◌, not, cond, Option, None, Some, List, [], ◌∷◌, ◌++◌, length, set, eqb, Float}
 use Rattle.lists.specs.Lists.{list_of}
 use Rattle.lists.specs.Rows.{row_of}
 use Rattle.refusals.specs.Answered.{Row, row, first_of}
 use Rattle.refusals.specs.Outcome.{after}
 use Rattle.maps.specs.declared.Cell.TheVariants.{Mark}
-use Rattle.maps.specs.declared.Range.{Range}
-use Rattle.maps.specs.declared.Range.TheVariants as range
+use Rattle.maps.specs.declared.Span.{Span}
 use Rattle.maps.specs.Cells.{in_buffer}
 use Rattle.maps.specs.Map.{size_rows, pixel_rows, valids, range_of}
 use Rattle.rows.specs.declared.RowRecord.{RowRecord}
 use Rattle.rows.specs.declared.Edit.{Edit}
 
 -- the record of a count and a range; where there is no valid cell, least and greatest are the mark
-abbrev pub record_in : ℕ → Range → RowRecord
-record_in n range.None = record { count = n; least = in_buffer Mark; greatest = in_buffer Mark }
-record_in n (range.Span lo hi) = record { count = n; least = lo; greatest = hi }
+abbrev pub record_in : ℕ → Option Span → RowRecord
+record_in n None = record { count = n; least = in_buffer Mark; greatest = in_buffer Mark }
+record_in n (Some s) = record { count = n; least = s.least; greatest = s.greatest }
 
 -- the least and the greatest that a record holds, where there is a valid cell
-abbrev pub range_in : RowRecord → Range
-range_in r = cond (eqb r.count 0) range.None (range.Span r.least r.greatest)
+abbrev pub range_in : RowRecord → Option Span
+range_in r = cond (eqb r.count 0) None (Some (record { least = r.least; greatest = r.greatest }))
 
 -- the record of a row's cells: how many are valid, and the least and the greatest of those
 abbrev pub row_record_of : List Float → RowRecord

@@ -1,4 +1,3 @@
--- What the functions of `rows` answer, and what an index is. A reader has to believe `Index` and `Runs`; `Inner` serves inner functions. Definitions only.
+-- What the functions of `rows` answer, and what an index is. Definitions only.
 pub mod Index
 pub mod Runs
-pub mod Inner

@@ -1,5 +1,5 @@
 -- Edits one after the other, of a map and the index beside it (docs/SPECIFICATION.md, "Row index"). Definitions only.
-use Rattle.std.specs.Prelude.{ℕ, ◌+◌, cond, List, [], ◌∷◌, length, Float}
+use Rattle.std.specs.Prelude.{ℕ, cond, List, [], ◌∷◌, length, sum_by, Float}
 use Rattle.std.specs.Float.Ieee.Scale.{finite}
 use Rattle.rows.specs.declared.RowRecord.{RowRecord}
 use Rattle.rows.specs.declared.Edit.{Edit}
@@ -33,6 +33,5 @@ abbrev pub counted : Float → ℕ
 counted c = cond (finite c) 1 0
 
 -- the counts of an index, added
-unfoldable pub total : List RowRecord → ℕ
-total [] = 0
-total (r ∷ rs) = r.count + total rs
+abbrev pub total : List RowRecord → ℕ
+total records = sum_by (λ (r : RowRecord). r.count) records

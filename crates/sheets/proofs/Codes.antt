@@ -11,11 +11,9 @@ use Rattle.lists.proofs.Tests.{and_both}
 use Rattle.numbers.proofs.FinitePatterns.{finite_number}
 use Rattle.sheets.specs.declared.code.Kind.{Kind}
 use Rattle.sheets.specs.declared.code.Kind.TheVariants.{Whole, Exact}
-use Rattle.sheets.specs.declared.code.Known.TheVariants as known
 use Rattle.sheets.specs.Limits.{is_whole_cell}
-use Rattle.refusals.specs.Steps.{Or, is, refused}
+use Rattle.refusals.specs.Steps.{is, refused}
 use Rattle.sheets.specs.Code.{kind_number, kind_of, folded, unfolded, is_whole, code_of, is_finite_pattern, sheet_cell}
-use Rattle.sheets.specs.Inner.{known_as}
 use Rattle.refusals.proofs.Stepwise.{not-refused, given_is}
 
 -- ---- the kinds
@@ -34,15 +32,6 @@ kind-number (suc (suc n)) k e = not-refused (sym e)
 pub kind-small : (k : Kind) → kind_number k < 2 ^ 35
 kind-small Whole = omega arith
 kind-small Exact = omega arith
-
--- what `kind_of` answers
-pub kind-is : (c : Or Kind) (k : Kind) → known.Kind k ≡ known_as c → c ≡ is k
-kind-is (is j) k q = cc
-kind-is (refused n) k q = cc
-
-pub kind-refused : (c : Or Kind) (n : ℕ) → known.Refused n ≡ known_as c → c ≡ refused n
-kind-refused (is j) n q = cc
-kind-refused (refused m) n q = cc
 
 -- ---- whole numbers folded
 

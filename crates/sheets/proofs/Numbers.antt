@@ -1,6 +1,5 @@
 -- The laws of a number's bytes. Assumes nothing.
-use Rattle.std.proofs.Common.{◌≡◌, ℕ, zero, suc, ◌+◌, ◌-◌, ◌*◌, ◌/◌, ◌%◌, ◌^◌, ◌<◌, ◌≤◌, Bool, true, false, cond, ◌&&◌, eqb, ltb, List, [], ◌∷◌, ◌++◌, length, get_or, drop, sym, refl, ap, ◌∙◌, append_assoc, add-zero, add_assoc, mul-le-mul_right, pow-suc, add-one, arith, length-append, drop_of_length-le, drop-cons, ltb-false, ltb-true, le-ltb, lt-ltb, ne_eqb}
-use native.Mathlib.Nat.{pow-le-pow_right}
+use Rattle.std.proofs.Common.{◌≡◌, ℕ, zero, suc, ◌+◌, ◌-◌, ◌*◌, ◌/◌, ◌%◌, ◌^◌, ◌<◌, ◌≤◌, Bool, true, false, cond, ltb, List, [], ◌∷◌, ◌++◌, length, sym, refl, ap, ◌∙◌, append_assoc, pow-suc, arith, length-append, ltb-false, ltb-true, le-ltb, lt-ltb}
 use Rattle.refusals.specs.Steps.{Or, is, refused, Taken}
 use Rattle.sheets.specs.Number.{groups, number_bytes, above, take_groups, take_number, AllBytes}
 use Rattle.refusals.proofs.Stepwise.{not-refused}
@@ -78,23 +77,12 @@ left-last {n} {rest} {done} l h = l.bytes ∙ rw (groups-last l.more rest h)
 pub left-some : {n rest : ℕ} {done : List ℕ} → Left n done rest → length done < length (number_bytes n)
 left-some {n} {rest} {done} l = omega (arith, ap length l.bytes, length-append done (groups l.more rest), groups-some l.more rest l.small)
 
--- ---- a number that is being read: what the groups passed give, and how many more may follow
+-- ---- a number that is being read, group by group
 
 -- the number at the front of some bytes where it may have at most `most` groups
 abbrev take_most : ℕ → List ℕ → Or Taken
 take_most zero s = refused 34
 take_most (suc more) s = take_groups more s
-
--- i groups, which give `value` in front of groups of `unit`, and what was read after them
-abbrev joined : ℕ → ℕ → ℕ → Or Taken → Or Taken
-joined i value unit (refused n) = refused n
-joined i value unit (is t) = cond (ltb 0 i && eqb t.number 0) (refused 34) (is (record { number = value + t.number * unit; rest = t.rest }))
-
-take_none : (most : ℕ) → take_most most [] ≡ refused 34
-unfolding take_groups
-take_none zero = refl
-take_none (suc zero) = refl
-take_none (suc (suc more)) = refl
 
 take_last : (more b : ℕ) (s : List ℕ) → b < 128 → take_groups more (b ∷ s) ≡ is (record { number = b; rest = s })
 unfolding take_groups
@@ -106,86 +94,36 @@ unfolding take_groups
 take_next zero b s h = rw (le-ltb b 128 h)
 take_next (suc more) b s h = rw (le-ltb b 128 h)
 
-and-false : (t : Bool) → (t && false) ≡ false
-and-false true = refl
-and-false false = refl
+-- where the bytes end there is none
+pub cut-short : (more : ℕ) (s : List ℕ) → length s ≡ 0 → refused 34 ≡ take_groups more s
+unfolding take_groups
+cut-short zero [] h = refl
+cut-short (suc more) [] h = refl
+cut-short more (b ∷ s) h = absurd (omega arith)
 
-joined-none : (t : Or Taken) → t ≡ joined 0 0 1 t
-joined-none (refused n) = refl
-joined-none (is t) = ap (λ (n : ℕ). is (record { number = n; rest = t.rest })) (omega arith)
+module _ {s rest : List ℕ} {b : ℕ} (front : s ≡ b ∷ rest) where
+  -- a group below 128 ends it
+  pub ends-here : (more : ℕ) → b < 128 → is (record { number = b; rest = rest }) ≡ take_groups more s
+  ends-here more l = rw (front, take_last more b rest l)
 
-joined-above : (i value unit low : ℕ) (t : Or Taken) → joined i value unit (above low t) ≡ joined (i + 1) (value + low * unit) (unit * 128) t
-joined-above i value unit low (refused n) = refl
-joined-above i value unit low (is t) = go t.number
-  where
-    go : (n : ℕ)
-        → joined i value unit (cond (ltb 0 n) (is (record { number = low + 128 * n; rest = t.rest })) (refused 34))
-        ≡ cond (ltb 0 (i + 1) && eqb n 0) (refused 34) (is (record { number = value + low * unit + n * (unit * 128); rest = t.rest }))
-    go zero = rw (lt-ltb 0 (i + 1) (omega arith))
-    go (suc n) =
-        let same : value + (low + 128 * suc n) * unit ≡ value + low * unit + suc n * (unit * 128) = omega arith in
-        rw (lt-ltb 0 (suc n) (omega arith), ne_eqb (low + 128 * suc n) 0 (λ e. omega arith), ne_eqb (suc n) 0 (λ e. omega arith), and-false (ltb 0 i), and-false (ltb 0 (i + 1)), same)
+  -- another has to be followed, where one may
+  pub over-long : (more : ℕ) → 128 ≤ b → more ≡ 0 → refused 34 ≡ take_groups more s
+  over-long more l none = rw (none, front, take_next 0 b rest l)
 
--- what stands after i groups of the number at `at`
-pub record Read (s : List ℕ) (at value unit i : ℕ) : Type 0 where
-  pub inside : at + i ≤ length s
-  pub more : ℕ
-  pub count : i + more ≡ 5
-  pub power : unit ≡ 128 ^ i
-  pub below : value < unit
-  pub number : take_number (drop at s) ≡ joined i value unit (take_most more (drop (at + i) s))
+  goes-on : (more : ℕ) → 128 ≤ b → (more ≡ 0 → ⊥) → take_groups more s ≡ above (b - 128) (take_groups (more - 1) rest)
+  goes-on zero l some = absurd (some refl)
+  goes-on (suc more) l some = rw (front, take_next (suc more) b rest l) (ap (λ (m : ℕ). above (b - 128) (take_groups m rest)) (omega arith))
 
-pub read_none : (s : List ℕ) (at : ℕ) → at ≤ length s → Read s at 0 1 0
-unfolding take_number
-read_none s at h = record {
-  inside = omega arith;
-  more = 5;
-  count = refl;
-  power = refl;
-  below = omega arith;
-  number = rw add-zero (joined-none (take_groups 4 (drop at s)));
-}
+  module _ (more : ℕ) (l : 128 ≤ b) (some : more ≡ 0 → ⊥) where
+    pub none_follows : (n : ℕ) → refused n ≡ take_groups (more - 1) rest → refused n ≡ take_groups more s
+    none_follows n e = rw (goes-on more l some, ← e)
 
-module _ {s : List ℕ} {at value unit i : ℕ} (r : Read s at value unit i) where
-  -- the bytes end, or five groups are passed
-  pub read-cut : length s ≤ at + i → take_number (drop at s) ≡ refused 34
-  read-cut h = r.number ∙ rw (drop_of_length-le s h, take_none r.more)
+    pub zero_follows : (high : ℕ) (after : List ℕ) → is (record { number = high; rest = after }) ≡ take_groups (more - 1) rest → high ≡ 0 → refused 34 ≡ take_groups more s
+    zero_follows high after e z = rw (goes-on more l some, ← e, z)
 
-  pub read-over : 5 ≤ i → take_number (drop at s) ≡ refused 34
-  read-over h = let none : r.more ≡ 0 = omega arith in r.number ∙ rw none
-
-  -- the sums fit
-  unit-most : i < 5 → unit ≤ 2 ^ 28
-  unit-most h = let four : i ≤ 4 = omega arith in omega (arith, r.power, pow-le-pow_right {n = 128} (omega arith) {i = i} {j = 4} four)
-
-  group-below : (low : ℕ) → low < 128 → value + low * unit < unit * 128
-  group-below low h = omega (arith, r.below, mul-le-mul_right {m = low} {n = 127} unit (omega arith))
-
-  pub read_fits : i < 5 → (low : ℕ) → low < 128 → (value + low * unit < 2 ^ 35) × (unit * 128 ≤ 2 ^ 35)
-  read_fits h low l = (omega (arith, unit-most h, group-below low l), omega (arith, unit-most h))
-
-  -- one group more, where the bytes are not at their end
-  module _ (h : i < 5) (here : at + i < length s) where
-    front : drop (at + i) s ≡ get_or s (at + i) 0 ∷ drop (at + i + 1) s
-    front = rw add-one (drop-cons s (at + i) 0 here)
-
-    one_more : take_number (drop at s) ≡ joined i value unit (take_groups (4 - i) (get_or s (at + i) 0 ∷ drop (at + i + 1) s))
-    one_more =
-        let some : r.more ≡ suc (4 - i) = omega arith in
-        r.number ∙ rw (front, some)
-
-    pub read-last : get_or s (at + i) 0 < 128 → take_number (drop at s) ≡ joined i value unit (is (record { number = get_or s (at + i) 0; rest = drop (at + i + 1) s }))
-    read-last l = one_more ∙ rw (take_last (4 - i) (get_or s (at + i) 0) (drop (at + i + 1) s) l)
-
-    pub read_next : 128 ≤ get_or s (at + i) 0 → get_or s (at + i) 0 < 256 → Read s at (value + (get_or s (at + i) 0 - 128) * unit) (unit * 128) (i + 1)
-    read_next l b = record {
-      inside = omega arith;
-      more = 4 - i;
-      count = omega arith;
-      power = rw (add-one, pow-suc, r.power);
-      below = group-below (get_or s (at + i) 0 - 128) (omega arith);
-      number = one_more ∙ rw (take_next (4 - i) (get_or s (at + i) 0) (drop (at + i + 1) s) l, ← add_assoc) (joined-above i value unit (get_or s (at + i) 0 - 128) (take_most (4 - i) (drop (at + i + 1) s)));
-    }
+    pub one_follows : (high : ℕ) (after : List ℕ) → is (record { number = high; rest = after }) ≡ take_groups (more - 1) rest → (high ≡ 0 → ⊥)
+        → is (record { number = b - 128 + 128 * high; rest = after }) ≡ take_groups more s
+    one_follows high after e z = rw (goes-on more l some, ← e, lt-ltb 0 high (omega arith))
 
 -- ---- a number's bytes and the number read from them are each other's inverses
 
@@ -245,7 +183,7 @@ from-group most b s t all after e = go (ltb b 128) refl
     go false small = let h = ltb-false b 128 small in above_from h (take_most most s) refl (sym (take_next most b s h) ∙ e)
 
 groups-from : (more : ℕ) (s : List ℕ) (t : Taken) → AllBytes s → take_groups more s ≡ is t → From more s t
-groups-from more [] t all e = not-refused (sym e ∙ take_none (suc more))
+groups-from more [] t all e = not-refused (sym e ∙ sym (cut-short more [] refl))
 groups-from zero (b ∷ s) t all e = from-group zero b s t all (λ u q. not-refused (sym q)) e
 groups-from (suc more) (b ∷ s) t all e = from-group (suc more) b s t all (λ u. groups-from more s u all.1) e
 

@@ -1,141 +1,85 @@
 -- What was found at a place, step by step, makes what the definitions take from the bytes there. Assumes nothing.
-use Rattle.std.proofs.Common.{◌≡◌, ℕ, suc, ◌+◌, ◌-◌, ◌*◌, ◌<◌, ◌≤◌, Bool, true, false, leb, List, [], ◌∷◌, ◌++◌, length, take, drop, set, sym, refl, ap, ◌∙◌, subst, append_assoc, append-nil, zero-le, mul-le-mul, add-one, arith, length-set, drop_of_length-le, drop-cons, take-suc-set, eq-eqb, ne_eqb, leb-true}
+use Rattle.std.proofs.Common.{◌≡◌, ℕ, suc, ◌+◌, ◌-◌, ◌*◌, ◌<◌, ◌≤◌, Bool, true, leb, List, [], ◌∷◌, ◌++◌, length, take, set, sym, refl, ap, ◌∙◌, subst, append_assoc, append-nil, zero-le, mul-le-mul, add-one, arith, length-set, take-suc-set, eq-eqb, ne_eqb, leb-true}
 use native.Mathlib.Nat.{sub-zero}
 use lib.Seq.{take-length}
 use lib.Ieee.{Float}
-use Rattle.sheets.specs.declared.number.Found.{Found}
-use Rattle.sheets.specs.declared.number.Found.TheVariants as found
 use Rattle.sheets.specs.declared.code.Kind.{Kind}
-use Rattle.sheets.specs.declared.code.Stored.TheVariants as stored
-use Rattle.sheets.specs.declared.reading.FoundCell.{FoundCell}
-use Rattle.sheets.specs.declared.reading.FoundCell.TheVariants as cell
-use Rattle.sheets.specs.declared.reading.FoundHead.{FoundHead}
-use Rattle.sheets.specs.declared.reading.FoundHead.TheVariants as head
-use Rattle.sheets.specs.declared.reading.Said.TheVariants as said
-use Rattle.sheets.specs.declared.reading.Checked.TheVariants as checked
 use Rattle.lists.proofs.Tests.{and_both}
 use Rattle.sheets.specs.Limits.{sheet_side_most, is_sheet_side}
 use Rattle.refusals.specs.Steps.{Or, is, refused, and_then, given, NotRefused, list_in, Taken}
 use Rattle.sheets.specs.Number.{take_number}
-use Rattle.sheets.specs.Code.{kind_of, sheet_cell}
-use Rattle.sheets.specs.Sheet.{Head, take_version, take_side, take_head, TakenCell, take_cell, take_cells, cells_after_head, sheet_with, read_sheet}
+use Rattle.sheets.specs.Code.{kind_of}
+use Rattle.sheets.specs.Sheet.{Head, take_version, take_side, take_head, take_cell, take_cells, cells_after_head, sheet_with, read_sheet}
 use Rattle.sheets.specs.Outcome.{ReadOutcome}
-use Rattle.sheets.specs.Inner.{FoundAs, CellAs, HeadAs, stored_as, checked_as, checked_head}
+use Rattle.std.specs.Prelude.{Ok, Err}
+use Rattle.refusals.specs.declared.Refusal.{Refusal}
+use Rattle.refusals.specs.declared.Refusal.TheVariants as refusal
+use Rattle.refusals.specs.Numbers.{number_of}
+use Rattle.sheets.specs.Inner.{looked_at, checked_head}
 use Rattle.refusals.proofs.Stepwise.{not-refused, list-not-refused, same-result, same-refusal, then_is, given_is}
 
--- ---- a number
-module _ (s : List ℕ) (t : Or Taken) (r : Found) (h : FoundAs s t r) where
-  pub found_number : (n next : ℕ) → r ≡ found.Number n next → FoundAs s t (found.Number n next)
-  found_number n next e = subst (λ (r : Found). FoundAs s t r) e h
-
-  pub found-refused : (n : ℕ) → r ≡ found.Refused n → t ≡ refused n
-  found-refused n e = subst (λ (r : Found). FoundAs s t r) e h
-
--- ---- a number that has to pass a test: the version, and a width or a height
+-- a number that has to pass a test: the version, and a width or a height
 abbrev pub tested : (ℕ → Bool) → ℕ → Or Taken → Or Taken
 tested test refusal t = and_then t (λ t. given (test t.number) refusal t)
 
-module _ (s : List ℕ) (t : Or Taken) (test : ℕ → Bool) (refusal : ℕ) (r : Found) (h : FoundAs s t r) where
-  pub tested-passed : (n next : ℕ) → r ≡ found.Number n next → test n ≡ true → FoundAs s (tested test refusal t) (found.Number n next)
-  tested-passed n next e y =
-      let f = found_number s t r h n next e in
-      (rw (f.0, y), f.1)
-
-  pub tested-failed : (n next : ℕ) → r ≡ found.Number n next → test n ≡ false → tested test refusal t ≡ refused refusal
-  tested-failed n next e y =
-      let f = found_number s t r h n next e in
-      rw (f.0, y)
-
-  pub tested-refused : (n : ℕ) → r ≡ found.Refused n → tested test refusal t ≡ refused n
-  tested-refused n e = rw (found-refused s t r h n e)
-
--- ---- a cell
-module _ (s : List ℕ) (k : Kind) (rest : List ℕ) (r : Found) (h : FoundAs s (take_number rest) r) where
-  pub cell-found : (n next : ℕ) → r ≡ found.Number n next → (x : Float) → stored.Cell x ≡ stored_as (sheet_cell k n) → CellAs s (take_cell k rest) (cell.Cell x next)
-  unfolding take_cell
-  cell-found n next e x q =
-      let f = found_number s (take_number rest) r h n next e in
-      (rw (f.0, held (sheet_cell k n) x q), f.1)
-    where
-      held : (c : Or Float) (x : Float) → stored.Cell x ≡ stored_as c → c ≡ is x
-      held (is y) x q = cc
-      held (refused n) x q = cc
-
-  pub cell-none : (n next : ℕ) → r ≡ found.Number n next → (m : ℕ) → stored.Refused m ≡ stored_as (sheet_cell k n) → take_cell k rest ≡ refused m
-  unfolding take_cell
-  cell-none n next e m q =
-      let f = found_number s (take_number rest) r h n next e in
-      rw (f.0, none (sheet_cell k n) m q)
-    where
-      none : (c : Or Float) (m : ℕ) → stored.Refused m ≡ stored_as c → c ≡ refused m
-      none (is y) m q = cc
-      none (refused n) m q = cc
-
-  pub cell-unread : (n : ℕ) → r ≡ found.Refused n → take_cell k rest ≡ refused n
-  unfolding take_cell
-  cell-unread n e = rw (found-refused s (take_number rest) r h n e)
-
-module _ (s : List ℕ) (t : Or TakenCell) (r : FoundCell) (h : CellAs s t r) where
-  pub found-cell : (x : Float) (next : ℕ) → r ≡ cell.Cell x next → CellAs s t (cell.Cell x next)
-  found-cell x next e = subst (λ (r : FoundCell). CellAs s t r) e h
-
-  pub cell-refused : (n : ℕ) → r ≡ cell.Refused n → t ≡ refused n
-  cell-refused n e = subst (λ (r : FoundCell). CellAs s t r) e h
-
--- ---- looking at the cells one by one: from a place on there are as many as are left, and they are refused as all are
-pub record Checking (k : Kind) (count : ℕ) (s : List ℕ) (at next i : ℕ) : Type 0 where
+-- ---- looking at the cells one by one: there are as many as are left, and they are refused as all are
+pub record Checking (k : Kind) (count : ℕ) (s rest : List ℕ) (i : ℕ) : Type 0 where
   pub within : i ≤ count
-  pub inside : next ≤ length s
-  pub same : checked_as (take_cells k count (drop at s)) ≡ checked_as (take_cells k (count - i) (drop next s))
+  pub same : looked_at (take_cells k count s) ≡ looked_at (take_cells k (count - i) rest)
+
+pub checking-none : (k : Kind) (count : ℕ) (s : List ℕ) → Checking k count s s 0
+checking-none k count s = record { within = zero-le; same = rw sub-zero }
 
 -- one cell before others changes nothing of their refusal
-one_more : (x : Float) (others : Or (List Float)) → checked_as (and_then others (λ cells. is (x ∷ cells))) ≡ checked_as others
+one_more : (x : Float) (others : Or (List Float)) → looked_at (and_then others (λ cells. is (x ∷ cells))) ≡ looked_at others
 one_more x (is cells) = refl
 one_more x (refused n) = refl
 
-module _ (k : Kind) (count : ℕ) (s : List ℕ) (at next i : ℕ) (c : Checking k count s at next i) where
-  -- the cell at the place
-  module _ (l : i < count) (r : FoundCell) (h : CellAs s (take_cell k (drop next s)) r) where
+-- behind the last cell there is a byte, or none
+left_over : (k : Kind) (rest : List ℕ) → (length rest ≡ 0 → ⊥) → looked_at (take_cells k 0 rest) ≡ refused 38
+unfolding take_cells
+left_over k [] h = absurd (h refl)
+left_over k (b ∷ rest) h = refl
+
+all_read : (k : Kind) (rest : List ℕ) → length rest ≡ 0 → looked_at (take_cells k 0 rest) ≡ is tt
+unfolding take_cells
+all_read k [] h = refl
+all_read k (b ∷ rest) h = absurd (omega arith)
+
+module _ (k : Kind) (count : ℕ) (s rest : List ℕ) (i : ℕ) (c : Checking k count s rest i) where
+  -- the cell at the front
+  module _ (l : i < count) where
     left : count - i ≡ suc (count - (i + 1))
     left = omega arith
 
-    pub checking-next : (x : Float) (past : ℕ) → r ≡ cell.Cell x past → Checking k count s at past (i + 1)
+    pub checking-next : (x : Float) (past : List ℕ) → is (record { cell = x; rest = past }) ≡ take_cell k rest → Checking k count s past (i + 1)
     unfolding take_cells
-    checking-next x past e =
-        let f = found-cell s (take_cell k (drop next s)) r h x past e in
-        record {
-          within = omega arith;
-          inside = f.1;
-          same = c.same ∙ rw (left, f.0) (one_more x (take_cells k (count - (i + 1)) (drop past s)));
-        }
+    checking-next x past e = record { within = omega arith; same = c.same ∙ rw (left, ← e) (one_more x (take_cells k (count - (i + 1)) past)) }
 
-    pub checking-refused : (n : ℕ) → r ≡ cell.Refused n → checked.Refused n ≡ checked_as (take_cells k count (drop at s))
+    pub checking-refused : (n : ℕ) → refused n ≡ take_cell k rest → refused n ≡ looked_at (take_cells k count s)
     unfolding take_cells
-    checking-refused n e = sym (c.same ∙ rw (left, cell-refused s (take_cell k (drop next s)) r h n e))
+    checking-refused n e = sym (c.same ∙ rw (left, ← e))
 
   -- no cell is left
   module _ (l : count ≤ i) where
     none_left : count - i ≡ 0
     none_left = omega arith
 
-    pub checking-more : next < length s → checked.Refused 38 ≡ checked_as (take_cells k count (drop at s))
-    unfolding take_cells
-    checking-more h = sym (c.same ∙ rw (none_left, drop-cons s next 0 h))
+    pub checking-more : (length rest ≡ 0 → ⊥) → refused 38 ≡ looked_at (take_cells k count s)
+    checking-more h = sym (c.same ∙ rw none_left (left_over k rest h))
 
-    pub checking-done : length s ≤ next → checked.Fine ≡ checked_as (take_cells k count (drop at s))
-    unfolding take_cells
-    checking-done h = sym (c.same ∙ rw (none_left, drop_of_length-le s h))
+    pub checking-done : length rest ≡ 0 → is tt ≡ looked_at (take_cells k count s)
+    checking-done h = sym (c.same ∙ rw none_left (all_read k rest h))
 
 -- ---- reading the cells one by one: those read and those left make all
-pub record Filling (k : Kind) (s : List ℕ) (at : ℕ) (out₀ out : List Float) (next i : ℕ) : Type 0 where
-  pub within : i ≤ length out₀
-  pub long : length out ≡ length out₀
-  pub inside : next ≤ length s
-  pub fine : NotRefused (take_cells k (length out₀ - i) (drop next s))
-  pub all : take_cells k (length out₀) (drop at s) ≡ is (take i out ++ list_in (take_cells k (length out₀ - i) (drop next s)))
+pub record Filling (k : Kind) (s : List ℕ) (count : ℕ) (out : List Float) (rest : List ℕ) (i : ℕ) : Type 0 where
+  pub within : i ≤ count
+  pub long : length out ≡ count
+  pub fine : NotRefused (take_cells k (count - i) rest)
+  pub all : take_cells k count s ≡ is (take i out ++ list_in (take_cells k (count - i) rest))
 
-pub filling-none : (k : Kind) (s : List ℕ) (at : ℕ) (out₀ : List Float) → at ≤ length s → NotRefused (take_cells k (length out₀) (drop at s)) → Filling k s at out₀ out₀ at 0
-filling-none k s at out₀ l h = record { within = zero-le; long = refl; inside = l; fine = rw sub-zero h; all = rw sub-zero h }
+pub filling-none : (k : Kind) (s : List ℕ) (out : List Float) → NotRefused (take_cells k (length out) s) → Filling k s (length out) out s 0
+filling-none k s out h = record { within = zero-le; long = refl; fine = rw sub-zero h; all = rw sub-zero h }
 
 -- others that are accepted with a cell before them are accepted, and stand behind it
 others-fine : (x : Float) (others : Or (List Float)) → NotRefused (and_then others (λ cells. is (x ∷ cells)))
@@ -148,39 +92,37 @@ unfolding take_cells
 none-listed k [] = refl
 none-listed k (b ∷ s) = refl
 
-module _ (k : Kind) (s : List ℕ) (at : ℕ) (out₀ out : List Float) (next i : ℕ) (f : Filling k s at out₀ out next i) where
-  module _ (l : i < length out) (r : FoundCell) (h : CellAs s (take_cell k (drop next s)) r) where
-    to_read : length out₀ - i ≡ suc (length out₀ - (i + 1))
+module _ (k : Kind) (s : List ℕ) (count : ℕ) (out : List Float) (rest : List ℕ) (i : ℕ) (f : Filling k s count out rest i) where
+  module _ (l : i < count) where
+    to_read : count - i ≡ suc (count - (i + 1))
     to_read = omega (arith, f.long)
 
     one-read : (x : Float) (others : List Float) → take i out ++ x ∷ others ≡ take (i + 1) (set out i x) ++ others
-    one-read x others = rw (add-one, take-suc-set out i x l) (sym (append_assoc (take i out) (x ∷ []) others))
+    one-read x others = rw (add-one, take-suc-set out i x (omega (arith, f.long))) (sym (append_assoc (take i out) (x ∷ []) others))
 
-    pub filling-next : (x : Float) (past : ℕ) → r ≡ cell.Cell x past → Filling k s at out₀ (set out i x) past (i + 1)
+    pub filling-next : (x : Float) (past : List ℕ) → is (record { cell = x; rest = past }) ≡ take_cell k rest → Filling k s count (set out i x) past (i + 1)
     unfolding take_cells
     filling-next x past e =
-        let g = found-cell s (take_cell k (drop next s)) r h x past e in
-        let others = take_cells k (length out₀ - (i + 1)) (drop past s) in
-        let split : take_cells k (length out₀ - i) (drop next s) ≡ and_then others (λ cells. is (x ∷ cells)) = rw (to_read, g.0) in
+        let others = take_cells k (count - (i + 1)) past in
+        let split : take_cells k (count - i) rest ≡ and_then others (λ cells. is (x ∷ cells)) = rw (to_read, ← e) in
         let o = others-fine x others (subst (λ (c : Or (List Float)). NotRefused c) split f.fine) in
         record {
           within = omega (arith, f.long);
           long = simp length-set f.long;
-          inside = g.1;
           fine = o.0;
           all = f.all ∙ rw (split, o.1) (ap is (one-read x (list_in others)));
         }
 
-    pub filling-refused : {A : Type 0} (n : ℕ) → r ≡ cell.Refused n → A
+    pub filling-refused : {A : Type 0} (n : ℕ) → refused n ≡ take_cell k rest → A
     unfolding take_cells
     filling-refused n e =
-        let bad : take_cells k (length out₀ - i) (drop next s) ≡ refused n = rw (to_read, cell-refused s (take_cell k (drop next s)) r h n e) in
-        list-not-refused (take_cells k (length out₀ - i) (drop next s)) bad f.fine
+        let bad : take_cells k (count - i) rest ≡ refused n = rw (to_read, ← e) in
+        list-not-refused (take_cells k (count - i) rest) bad f.fine
 
-  pub filling-done : length out ≤ i → take_cells k (length out₀) (drop at s) ≡ is out
+  pub filling-done : count ≤ i → take_cells k count s ≡ is out
   filling-done l =
       let last : i ≡ length out = omega (arith, f.long, f.within) in
-      let none : length out₀ - i ≡ 0 = omega (arith, f.long) in
+      let none : count - i ≡ 0 = omega (arith, f.long) in
       f.all ∙ rw (none, none-listed, last, take-length, append-nil)
 
 -- ---- the whole sheet
@@ -252,28 +194,19 @@ side-most n e = leb-true n sheet_side_most (and_both (leb 1 n) (leb n sheet_side
 pub sides-fit : (w h : ℕ) → Sides w h → w * h ≤ sheet_side_most * sheet_side_most
 sides-fit w h z = mul-le-mul (side-most w z.width) (side-most h z.height)
 
--- ---- a head that was found
-
-module _ (s : List ℕ) (t : Or Head) (r : FoundHead) (h : HeadAs s t r) where
-  pub found-head : (k : Kind) (w l next : ℕ) → r ≡ head.Head k w l next → HeadAs s t (head.Head k w l next)
-  found-head k w l next e = subst (λ (r : FoundHead). HeadAs s t r) e h
-
-  pub head-refused : (n : ℕ) → r ≡ head.Refused n → t ≡ refused n
-  head-refused n e = subst (λ (r : FoundHead). HeadAs s t r) e h
-
--- its cells were looked at: they are refused, or fine
-module _ (s : List ℕ) (h : Head) (e : take_head s ≡ is h) where
-  pub cells-refused : (n : ℕ) → checked.Refused n ≡ checked_as (cells_after_head h) → checked_head s ≡ refused n
-  cells-refused n q = rw e (go (cells_after_head h) q)
+-- ---- its cells were looked at: they are refused, or fine
+module _ (s : List ℕ) (h : Head) (e : is h ≡ take_head s) where
+  pub cells-refused : (n : ℕ) → refused n ≡ looked_at (cells_after_head h) → refused n ≡ checked_head s
+  cells-refused n q = rw (← e) (go (cells_after_head h) q)
     where
-      go : (cells : Or (List Float)) → checked.Refused n ≡ checked_as cells → and_then cells (λ _. is h) ≡ refused n
+      go : (cells : Or (List Float)) → refused n ≡ looked_at cells → refused n ≡ and_then cells (λ _. is h)
       go (is cells) q = cc
       go (refused m) q = cc
 
-  pub cells-fine : checked.Fine ≡ checked_as (cells_after_head h) → checked_head s ≡ is h
-  cells-fine q = rw e (go (cells_after_head h) q)
+  pub cells-fine : (u : Unit) → is u ≡ looked_at (cells_after_head h) → is h ≡ checked_head s
+  cells-fine u q = rw (← e) (go (cells_after_head h) q)
     where
-      go : (cells : Or (List Float)) → checked.Fine ≡ checked_as cells → and_then cells (λ _. is h) ≡ is h
+      go : (cells : Or (List Float)) → is u ≡ looked_at cells → is h ≡ and_then cells (λ _. is h)
       go (is cells) q = refl
       go (refused m) q = cc
 
@@ -309,11 +242,11 @@ looked-refused s n = by-head (take_head s)
 
 -- ---- what `read_sheet` does, by its tests
 
-pub read-refused : (s : List ℕ) (n : ℕ) (out : List Float) → checked_head s ≡ refused n → ReadOutcome (said.Refused n) (read_sheet s) out out
-read-refused s n out e = let r = looked-refused s n e in record { answers = rw r; outs = rw r }
+pub read-refused : (s : List ℕ) (d : Refusal) (out : List Float) → checked_head s ≡ refused (number_of d) → ReadOutcome (Err d) (read_sheet s) out out
+read-refused s d out e = let r = looked-refused s (number_of d) e in record { answers = rw r; outs = rw r }
 
 module _ (s : List ℕ) (h : Head) (e : checked_head s ≡ is h) (out : List Float) where
-  pub read-unfit : (length out ≡ h.width * h.height → ⊥) → ReadOutcome (said.Refused 11) (read_sheet s) out out
+  pub read-unfit : (length out ≡ h.width * h.height → ⊥) → ReadOutcome (Err refusal.OutputLength) (read_sheet s) out out
   read-unfit far =
       let l = looked s h e in
       let t = ne_eqb (length out) (h.width * h.height) far in
@@ -323,7 +256,7 @@ module _ (s : List ℕ) (h : Head) (e : checked_head s ≡ is h) (out : List Flo
   read-fine fit = rw fit (looked s h e).fine
 
   pub read_done : length out ≡ h.width * h.height → (out' : List Float) → take_cells h.kind (length out) h.rest ≡ is out'
-      → ReadOutcome (said.Map h.kind h.width h.height) (read_sheet s) out out'
+      → ReadOutcome (Ok (record { kind = h.kind; width = h.width; height = h.height })) (read_sheet s) out out'
   read_done fit out' f =
       let l = looked s h e in
       let t = eq-eqb (length out) (h.width * h.height) fit in

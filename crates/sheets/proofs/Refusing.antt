@@ -4,7 +4,7 @@ use lib.Ieee.{Float, nan, inf, fin, binary32, to_bits}
 use Rattle.maps.specs.Map.{good_size}
 use Rattle.refusals.specs.Answered.{first_of, Numbered, ByPlace}
 use Rattle.refusals.specs.Steps.{Or, is, refused, and_then, given}
-use Rattle.refusals.specs.Given.{number_back, written_given}
+use Rattle.refusals.specs.Given.{number_back}
 use Rattle.refusals.specs.Writes.{room_for, write_rows, byte_count}
 use Rattle.refusals.proofs.Writes.{length-by-place, write-by-place}
 use Rattle.sheets.specs.declared.code.Kind.{Kind}
@@ -64,9 +64,9 @@ module _ (kind w h : ℕ) (cells : List Float) where
   numbered = (lit< tt, (lit< tt, kind-numbered (kind_of kind) cells))
 
   -- THEOREM: a sheet's length is answered by the place of its rows
-  pub sheet-length-by-place : ByPlace (sheet_rows kind w h cells) (number_back (written_given (byte_count (sheet_of kind w h cells))))
+  pub sheet-length-by-place : ByPlace (sheet_rows kind w h cells) (number_back (byte_count (sheet_of kind w h cells)))
   sheet-length-by-place = length-by-place numbered (sheet_of kind w h cells) (sheet-number kind w h cells)
 
   -- THEOREM: and so is what is written into an output of m bytes, whose length comes last
-  pub write-sheet-by-place : (m : ℕ) → ByPlace (write_rows (sheet_rows kind w h cells) 33 m (sheet_of kind w h cells)) (number_back (written_given (byte_count (room_for 33 m (sheet_of kind w h cells)))))
+  pub write-sheet-by-place : (m : ℕ) → ByPlace (write_rows (sheet_rows kind w h cells) 33 m (sheet_of kind w h cells)) (number_back (byte_count (room_for 33 m (sheet_of kind w h cells))))
   write-sheet-by-place m = write-by-place (sheet_rows kind w h cells) numbered 33 m (lit< tt) (sheet_of kind w h cells) (sheet-number kind w h cells)

@@ -6,10 +6,10 @@ use Rattle.maps.specs.Map.{good_size}
 use Rattle.maps.proofs.Facts.{good}
 use Rattle.maps.specs.Cells.{AllFit}
 use Rattle.sheets.specs.declared.code.Kind.{Kind}
-use Rattle.refusals.specs.declared.Written.{Written}
-use Rattle.refusals.specs.declared.Written.TheVariants as written
-use Rattle.sheets.specs.declared.reading.Said.{Said}
-use Rattle.sheets.specs.declared.reading.Said.TheVariants as said
+use Rattle.std.specs.Prelude.{Result, Ok}
+use Rattle.refusals.specs.declared.Refusal.{Refusal}
+use Rattle.refusals.proofs.Numbers.{known_by}
+use Rattle.sheets.specs.declared.reading.SheetSize.{SheetSize}
 use Rattle.sheets.specs.Limits.{version, sheet_side_most, is_sheet_side}
 use Rattle.refusals.specs.Steps.{Or, is, refused, and_then, given, Taken}
 use Rattle.sheets.specs.Number.{number_bytes, take_number, AllBytes}
@@ -183,40 +183,45 @@ one-sheet s s' d all all' e e' = same-result (sym (writes-back s d all e) ∙ wr
 
 -- ---- the same of the calls
 
+-- a sheet's kind, width and height
+abbrev pub size_is : Kind → ℕ → ℕ → SheetSize
+size_is k w h = record { kind = k; width = w; height = h }
+
 -- THEOREM: a map that was written and whose bytes were read into as many cells is there again
-pub mailed : (kind : ℕ) (k : Kind) (w h : ℕ) (cells : List Float) (n : ℕ) (out out' : List ℕ) (r : Said) (back back' : List Float) → AllFit cells → kind_of kind ≡ is k
-    → WriteOutcome 33 (written.Bytes n) (sheet_of kind w h cells) out out'
+pub mailed : (kind : ℕ) (k : Kind) (w h : ℕ) (cells : List Float) (n : ℕ) (out out' : List ℕ) (r : Result SheetSize Refusal) (back back' : List Float) → AllFit cells → kind_of kind ≡ is k
+    → WriteOutcome 33 (Ok n) (sheet_of kind w h cells) out out'
     → ReadOutcome r (read_sheet (take n out')) back back' → length back ≡ w * h
-    → (r ≡ said.Map k w h) × (back' ≡ cells)
+    → (r ≡ Ok (size_is k w h)) × (back' ≡ cells)
 mailed kind k w h cells n out out' r back back' fit known done read size =
     let says = reads-back kind k w h cells (take n out') fit known (written_is (sheet_of kind w h cells) n out out' done) in
     let roomy = eq-eqb (length back) (w * h) size in
-    (read.answers ∙ rw (says, roomy), read.outs ∙ rw (says, roomy))
+    (known_by r (Ok (size_is k w h)) (read.answers ∙ rw (says, roomy)), read.outs ∙ rw (says, roomy))
 
 -- what an answered map says: the bytes are a sheet of that kind and size, and its cells are what was left
-read_is : (o : Or Sheet) (k : Kind) (w h : ℕ) (out cells : List Float) → ReadOutcome (said.Map k w h) o out cells → o ≡ is (record { kind = k; width = w; height = h; cells = cells })
+read_is : (o : Or Sheet) (k : Kind) (w h : ℕ) (out cells : List Float) → ReadOutcome (Ok (size_is k w h)) o out cells → o ≡ is (record { kind = k; width = w; height = h; cells = cells })
 read_is (refused n) k w h out cells d = let e = d.answers in cc
 read_is (is sheet) k w h out cells d = go (eqb (length out) (sheet.width * sheet.height)) d.answers d.outs
   where
-    go : (t : Bool) → said.Map k w h ≡ size_said (given t 11 sheet) → cells ≡ cells_after (given t 11 sheet) out → is sheet ≡ is (record { kind = k; width = w; height = h; cells = cells })
+    go : (t : Bool) → is (size_is k w h) ≡ size_said (given t 11 sheet) → cells ≡ cells_after (given t 11 sheet) out → is sheet ≡ is (record { kind = k; width = w; height = h; cells = cells })
     go true e o =
-        let kinds : k ≡ sheet.kind = cc in
-        let wide : w ≡ sheet.width = cc in
-        let high : h ≡ sheet.height = cc in
+        let same : size_is k w h ≡ size_is sheet.kind sheet.width sheet.height = same-result e in
+        let kinds = ap (λ (z : SheetSize). z.kind) same in
+        let wide = ap (λ (z : SheetSize). z.width) same in
+        let high = ap (λ (z : SheetSize). z.height) same in
         rw (kinds, wide, high, o)
     go false e o = cc
 
 -- THEOREM: a map that was read, and whose cells were written in its kind into an output that is long enough, has the same bytes
-pub mailed-back : (s : List ℕ) (k : Kind) (w h : ℕ) (out cells : List Float) (r : Written) (text text' : List ℕ) → AllBytes s
-    → ReadOutcome (said.Map k w h) (read_sheet s) out cells
+pub mailed-back : (s : List ℕ) (k : Kind) (w h : ℕ) (out cells : List Float) (r : Result ℕ Refusal) (text text' : List ℕ) → AllBytes s
+    → ReadOutcome (Ok (size_is k w h)) (read_sheet s) out cells
     → WriteOutcome 33 r (sheet_of (kind_number k) w h cells) text text' → length s ≤ length text
-    → (r ≡ written.Bytes (length s)) × (take (length s) text' ≡ s)
+    → (r ≡ Ok (length s)) × (take (length s) text' ≡ s)
 mailed-back s k w h out cells r text text' all read done long =
     let same = writes-back s (record { kind = k; width = w; height = h; cells = cells }) all (read_is (read_sheet s) k w h out cells read) in
     let fits = le-leb (length s) (length text) long in
-    (done.answers ∙ rw (same, fits), ap (take (length s)) (done.outs ∙ rw (same, fits)) ∙ take_at s (drop (length s) text) (length s) refl)
+    (known_by r (Ok (length s)) (done.answers ∙ rw (same, fits)), ap (take (length s)) (done.outs ∙ rw (same, fits)) ∙ take_at s (drop (length s) text) (length s) refl)
 
 -- THEOREM: two byte strings that are read as the same kind, size and cells are the same
 pub one-sheet-call : (s s' : List ℕ) (k : Kind) (w h : ℕ) (out out' cells : List Float) → AllBytes s → AllBytes s'
-    → ReadOutcome (said.Map k w h) (read_sheet s) out cells → ReadOutcome (said.Map k w h) (read_sheet s') out' cells → s ≡ s'
+    → ReadOutcome (Ok (size_is k w h)) (read_sheet s) out cells → ReadOutcome (Ok (size_is k w h)) (read_sheet s') out' cells → s ≡ s'
 one-sheet-call s s' k w h out out' cells all all' read read' = one-sheet s s' _ all all' (read_is (read_sheet s) k w h out cells read) (read_is (read_sheet s') k w h out' cells read')

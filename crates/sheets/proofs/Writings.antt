@@ -1,27 +1,24 @@
 -- What the proofs of writing a sheet share: the cells that a loop has passed, and what the calls answer. Assumes nothing.
-use Rattle.std.proofs.Common.{◌≡◌, ℕ, ◌+◌, ◌*◌, ◌^◌, ◌<◌, ◌≤◌, Bool, true, false, List, [], ◌∷◌, ◌++◌, length, get_or, drop, sym, refl, ap, ◌∙◌, append_assoc, append-nil, add-one, arith, length-append, drop_of_length-le, drop-cons}
+use Rattle.std.proofs.Common.{◌≡◌, ℕ, ◌+◌, ◌*◌, ◌^◌, ◌<◌, ◌≤◌, Bool, true, false, not, cond, List, [], ◌∷◌, ◌++◌, length, get_or, drop, sym, refl, ap, ◌∙◌, append_assoc, append-nil, add-one, arith, length-append, drop_of_length-le, drop-cons}
 use lib.Ieee.{Float, nan}
 use Rattle.options.specs.Limits.{side_most}
-use Rattle.maps.specs.Map.{good_size}
-use Rattle.maps.proofs.Facts.{good, pixels-small}
+use Rattle.maps.specs.Map.{good_size, size_rows}
+use Rattle.maps.proofs.Facts.{good, size-tested, pixels-small}
 use Rattle.sheets.specs.declared.code.Kind.{Kind}
-use Rattle.sheets.specs.declared.code.Known.{Known}
-use Rattle.sheets.specs.declared.code.Known.TheVariants as known
-use Rattle.sheets.specs.declared.code.Code.{Code}
-use Rattle.sheets.specs.declared.code.Code.TheVariants as code
-use Rattle.refusals.specs.declared.Written.{Written}
-use Rattle.refusals.specs.declared.Written.TheVariants as written
 use Rattle.sheets.specs.Limits.{version}
+use Rattle.refusals.specs.declared.Refusal.{Refusal}
+use Rattle.refusals.specs.Numbers.{number_of}
+use Rattle.refusals.specs.Answered.{first_of}
+use Rattle.refusals.proofs.Numbers.{some}
 use Rattle.refusals.specs.Steps.{Or, is, refused, and_then, list_in, NotRefused}
 use Rattle.sheets.specs.Number.{number_bytes}
 use Rattle.sheets.specs.Code.{kind_number, kind_of, code_of}
 use Rattle.sheets.specs.Sheet.{head_bytes, cells_bytes, kind_sheet, sheet_of}
 use Rattle.refusals.specs.Writes.{byte_count}
-use Rattle.sheets.specs.Inner.{known_as, code_as, CodeSmall}
 use Rattle.refusals.proofs.Stepwise.{list-not-refused}
 use Rattle.refusals.proofs.Writes.{Measured}
 use Rattle.sheets.proofs.Numbers.{number-most}
-use Rattle.sheets.proofs.Codes.{kind-is, kind-refused, kind-small}
+use Rattle.sheets.proofs.Codes.{kind-small}
 
 -- ---- bytes in front of others
 
@@ -44,19 +41,6 @@ pub record Passed (k : Kind) (cells : List Float) (i : ℕ) (done : List ℕ) : 
   pub within : i ≤ length cells
   pub most : length done ≤ 5 * i
   pub whole : cells_bytes k cells ≡ behind done (cells_bytes k (drop i cells))
-
--- what a cell's number is, by the answer of `code_of`
-pub code-number : {n : ℕ} (o : Or ℕ) (r : Code) → r ≡ code_as o → r ≡ code.Number n → o ≡ is n
-code-number (is m) r e h = cc
-code-number (refused m) r e h = cc
-
-pub code-refused : {n : ℕ} (o : Or ℕ) (r : Code) → r ≡ code_as o → r ≡ code.Refused n → o ≡ refused n
-code-refused (is m) r e h = cc
-code-refused (refused m) r e h = cc
-
-pub code-small : {n : ℕ} (r : Code) → CodeSmall r → r ≡ code.Number n → n < 2 ^ 35
-code-small {n} (code.Number m) b h = let same : n ≡ m = cc in omega arith
-code-small {n} (code.Refused m) b h = let z : ◌≡◌ {A = ℕ} 0 1 = cc in omega arith
 
 module _ (k : Kind) (cells : List Float) where
   pub passed_none : Passed k cells 0 []
@@ -117,9 +101,6 @@ four-most a b c d = omega (arith, number-most a, number-most b, number-most c, n
 
 -- ---- a sheet's byte count
 
-counted_same : {m n : ℕ} → written.Bytes m ≡ written.Bytes n → m ≡ n
-counted_same e = cc
-
 -- a sheet of n bytes: its head, and its cells, none of which is refused
 pub record SheetBytes (k : Kind) (w h : ℕ) (cells : List Float) (n : ℕ) : Type 0 where
   pub there : NotRefused (cells_bytes k cells)
@@ -127,25 +108,22 @@ pub record SheetBytes (k : Kind) (w h : ℕ) (cells : List Float) (n : ℕ) : Ty
   pub size : n ≡ length (head_bytes k w h) + length (list_in (cells_bytes k cells))
 
 module _ (k : Kind) (w h : ℕ) (cells : List Float) where
-  pub sheet-counted : {n : ℕ} (r : Written) → r ≡ byte_count (kind_sheet k w h cells) → r ≡ written.Bytes n → SheetBytes k w h cells n
+  pub sheet-counted : {n : ℕ} → is n ≡ byte_count (kind_sheet k w h cells) → SheetBytes k w h cells n
   unfolding kind_sheet
-  sheet-counted {n} r e q =
-      let fine = go (cells_bytes k cells) e in
-      let whole = ap (behind (head_bytes k w h)) fine in
-      let bytes = list_in (cells_bytes k cells) in
-      let count : n ≡ length (head_bytes k w h ++ bytes) = counted_same (sym q ∙ e ∙ ap byte_count whole) in
-      record { there = fine; whole = whole; size = count ∙ length-append (head_bytes k w h) bytes }
+  sheet-counted {n} e = go (cells_bytes k cells) refl e
     where
-      go : (list : Or (List ℕ)) → r ≡ byte_count (behind (head_bytes k w h) list) → NotRefused list
-      go (is bytes) f = refl
-      go (refused m) f = cc
+      go : (list : Or (List ℕ)) → cells_bytes k cells ≡ list → is n ≡ byte_count (behind (head_bytes k w h) list) → SheetBytes k w h cells n
+      go (is bytes) l f =
+          let count : n ≡ length (head_bytes k w h ++ bytes) = cc in
+          record { there = rw l; whole = rw l; size = rw l (count ∙ length-append (head_bytes k w h) bytes) }
+      go (refused m) l f = cc
 
-  pub sheet-count : {m n : ℕ} → m ≡ length (head_bytes k w h) → Measured (cells_bytes k cells) n → written.Bytes (m + n) ≡ byte_count (kind_sheet k w h cells)
+  pub sheet-count : {m n : ℕ} → m ≡ length (head_bytes k w h) → Measured (cells_bytes k cells) n → is (m + n) ≡ byte_count (kind_sheet k w h cells)
   unfolding kind_sheet
   sheet-count {m} {n} e c =
       let bytes = list_in (cells_bytes k cells) in
       let sum : m + n ≡ length (head_bytes k w h ++ bytes) = omega (arith, c.count, length-append (head_bytes k w h) bytes) in
-      ap written.Bytes sum ∙ sym (ap (λ (list : Or (List ℕ)). byte_count (behind (head_bytes k w h) list)) c.there)
+      ap is sum ∙ sym (ap (λ (list : Or (List ℕ)). byte_count (behind (head_bytes k w h) list)) c.there)
 
   pub sheet-refused : (n : ℕ) → cells_bytes k cells ≡ refused n → kind_sheet k w h cells ≡ refused n
   unfolding kind_sheet
@@ -159,20 +137,24 @@ module _ (k : Kind) (w h : ℕ) (cells : List Float) where
     pub sheet-small : {m n : ℕ} → m ≡ length (head_bytes k w h) → Measured (cells_bytes k cells) n → m + n ≤ 20 + 5 * (side_most * side_most)
     sheet-small e c = omega (arith, cells-few, c.count, cells-most k cells, head-sum k (kind_number k) refl w h, four-most version (kind_number k) w h)
 
--- the sheet of a kind's number, by the tests; t is what the test of the size answers, r what `kind_of` answers
-module _ (kind w h : ℕ) (cells : List Float) (t : Bool) (e : t ≡ good_size w h (length cells)) where
-  pub sheet-23 : t ≡ false → sheet_of kind w h cells ≡ refused 23
-  unfolding sheet_of
-  sheet-23 q = rw (sym e ∙ q)
+-- the sheet of a kind's number, by the tests of its size and of that number
+module _ (kind w h : ℕ) (cells : List Float) where
+  pub sheet-23 : (e : Refusal) → number_of e ≡ first_of (size_rows w h (length cells)) → sheet_of kind w h cells ≡ refused (number_of e)
+  unfolding sheet_of first_of
+  sheet-23 e q = go (good_size w h (length cells)) refl q
+    where
+      go : (t : Bool) → good_size w h (length cells) ≡ t → number_of e ≡ cond (not t) 23 0 → sheet_of kind w h cells ≡ refused (number_of e)
+      go true t f = absurd (omega (arith, some e))
+      go false t f = rw (t, f)
 
-  module _ (q : t ≡ true) (r : Known) (l : r ≡ known_as (kind_of kind)) where
-    pub sheet-of : (k : Kind) → r ≡ known.Kind k → sheet_of kind w h cells ≡ kind_sheet k w h cells
+  module _ (q : 0 ≡ first_of (size_rows w h (length cells))) where
+    pub sheet-of : (k : Kind) → is k ≡ kind_of kind → sheet_of kind w h cells ≡ kind_sheet k w h cells
     unfolding sheet_of
-    sheet-of k s = rw (sym e ∙ q, kind-is (kind_of kind) k (sym s ∙ l))
+    sheet-of k s = rw (size-tested w h (length cells) (sym q), ← s)
 
-    pub sheet-35 : (n : ℕ) → r ≡ known.Refused n → sheet_of kind w h cells ≡ refused n
+    pub sheet-35 : (n : ℕ) → refused n ≡ kind_of kind → sheet_of kind w h cells ≡ refused n
     unfolding sheet_of
-    sheet-35 n s = rw (sym e ∙ q, kind-refused (kind_of kind) n (sym s ∙ l))
+    sheet-35 n s = rw (size-tested w h (length cells) (sym q), ← s)
 
 -- a sheet's bytes fit where their count does
 pub sheet-fits : {k : Kind} {w h : ℕ} {cells : List Float} {n m : ℕ} → SheetBytes k w h cells n → n ≤ m → length (head_bytes k w h ++ list_in (cells_bytes k cells)) ≤ m

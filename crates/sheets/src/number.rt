@@ -1,21 +1,13 @@
 // A number as bytes: groups of seven bits, low group first, the high bit set on all but the last group. There is one writer and one
 // reader of a number; every field and every cell goes through them.
-ghost use Rattle.std.specs.Prelude.{◌≡◌, ◌+◌, ◌^◌, ◌<◌, ◌≤◌, ◌&&◌, length, drop, ◌==◌, nat_lt};
+ghost use Rattle.std.specs.Prelude.{◌≡◌, ◌+◌, ◌^◌, ◌<◌, ◌≤◌, length, IfOk};
 ghost use Rattle.lists.specs.Stores.{Wrote};
-ghost use Rattle.sheets.specs.Number.{number_bytes, take_number};
-ghost use Rattle.sheets.specs.Inner.{FoundAs};
+ghost use Rattle.sheets.specs.Number.{number_bytes, take_groups, take_number};
+ghost use Rattle.sheets.specs.Inner.{number_read};
 
-// The most groups that a number has.
-const GROUPS_MOST: usize = 5;
+use refusals::Refusal;
 
-// A number that was found and the place past it, or its refusal.
-#[derive(Drop)]
-pub enum Found {
-    Number(u64, usize),
-    Refused(u8),
-}
-
-// How many bytes a number takes.
+// How many bytes a number takes. Here and below the groups are divided off one by one: there is no slice to go over.
 pub fn number_length(n: u64) -> usize
     requires { n < 2 ^ 35 }
     ensures { result ≡ length (number_bytes n) }
@@ -29,7 +21,7 @@ pub fn number_length(n: u64) -> usize
     length
 }
 
-// Puts a number into `out` from `at` on, and answers the place past it.
+// Puts a number into `out` from `at` on, and answers the place past it. Two functions of this crate store bytes; a pen would serve them alone.
 pub fn put_number(n: u64, out: &mut [u8], at: usize) -> usize
     requires n_bound { n < 2 ^ 35 }
     requires n_in_bounds { at + length (number_bytes n) ≤ length out.old }
@@ -46,35 +38,35 @@ pub fn put_number(n: u64, out: &mut [u8], at: usize) -> usize
     next + 1
 }
 
-// Whether a last group only makes the number longer: a 0 behind `before` other groups.
-fn is_padding(b: u64, before: usize) -> bool
-    ensures { result ≡ nat_lt 0 before && (b == 0) }
+// The number at the front where `more` groups may follow the first, and the bytes after it.
+fn read_groups(s: &[u8], more: usize) -> Result<(u64, &[u8]), Refusal>
+    requires { more ≤ 4 }
+    ensures value { number_read result ≡ take_groups more s.now }
+    ensures bound { IfOk result (λ p. p.0 < 128 ^ (more + 1)) }
 {
-    if 0 < before { b == 0 } else { false }
+    let Some((b, rest)) = s.split_first() else {
+        return Err(Refusal::NumberUnfit);
+    };
+    let low = u64::from(*b);
+    if low < 128 {
+        return Ok((low, rest));
+    }
+    if more == 0 {
+        return Err(Refusal::NumberUnfit);
+    }
+    let (high, rest) = read_groups(rest, more - 1)?;
+    // a last group of 0 only makes the number longer
+    if high == 0 {
+        return Err(Refusal::NumberUnfit);
+    }
+    Ok((low - 128 + 128 * high, rest))
 }
 
-// The number at a place: refused where it is cut, has a last group of 0 behind others, or goes on after five groups.
-pub fn read_number(s: &[u8], at: usize) -> Found
-    requires { at ≤ length s.now }
-    ensures { FoundAs s.now (take_number (drop at s.now)) result }
+// The number at the front, and the bytes after it: refused where it is cut, has a last group of 0 behind others, or goes on after five
+// groups.
+#[tactic(auto, unfolding(crate::specs::Number::take_number))]
+pub fn read_number(s: &[u8]) -> Result<(u64, &[u8]), Refusal>
+    ensures { number_read result ≡ take_number s.now }
 {
-    let mut value: u64 = 0;
-    let mut unit: u64 = 1;
-    let mut i: usize = 0;
-    while i < GROUPS_MOST {
-        if s.len() <= at + i {
-            return Found::Refused(34);
-        }
-        let b = s[at + i] as u64;
-        if b < 128 {
-            if is_padding(b, i) {
-                return Found::Refused(34);
-            }
-            return Found::Number(value + b * unit, at + i + 1);
-        }
-        value += (b - 128) * unit;
-        unit *= 128;
-        i += 1;
-    }
-    Found::Refused(34)
+    read_groups(s, 4)
 }

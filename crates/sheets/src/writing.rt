@@ -4,34 +4,27 @@ ghost use Rattle.lists.specs.Stores.{Wrote};
 ghost use Rattle.options.specs.Limits.{side_most};
 ghost use Rattle.maps.specs.Map.{good_size};
 ghost use Rattle.sheets.specs.Sheet.{head_bytes, cells_bytes, kind_sheet, sheet_of};
+ghost use Rattle.refusals.specs.Given.{given_back};
 ghost use Rattle.refusals.specs.Writes.{byte_count, WriteOutcome};
 ghost use Rattle.refusals.specs.Steps.{NotRefused, list_in};
 
-use crate::code::{Code, Kind, Known, code_of, kind_of};
+use crate::code::Kind;
 use crate::limits::VERSION;
 use crate::number::{number_length, put_number};
-use maps::size_good;
-use refusals::Written;
+use maps::check_size;
+use refusals::Refusal;
 
 // How many bytes the cells take.
-fn cells_length(kind: Kind, cells: &[f32]) -> Written
+fn cells_length(kind: Kind, cells: &[f32]) -> Result<usize, Refusal>
     requires { length cells.now ≤ side_most * side_most }
-    ensures { result ≡ byte_count (cells_bytes kind cells.now) }
+    ensures { given_back result ≡ byte_count (cells_bytes kind cells.now) }
 {
     let mut total: usize = 0;
-    let mut i: usize = 0;
-    while i < cells.len() {
-        match code_of(kind, cells[i]) {
-            Code::Number(n) => {
-                total += number_length(n);
-            }
-            Code::Refused(n) => {
-                return Written::Refused(n);
-            }
-        }
-        i += 1;
+    for x in cells {
+        let code = kind.code_of(*x)?;
+        total += number_length(code);
     }
-    Written::Bytes(total)
+    Ok(total)
 }
 
 // How many bytes the head takes.
@@ -41,34 +34,27 @@ fn head_length(kind: Kind, width: usize, height: usize) -> usize
     ensures { result ≡ length (head_bytes kind width height) }
 {
     number_length(VERSION)
-        + number_length(kind.number())
+        + number_length(u64::from(kind))
         + number_length(width as u64)
         + number_length(height as u64)
 }
 
 // How many bytes the sheet of a kind takes.
-fn kind_length(kind: Kind, cells: &[f32], width: usize, height: usize) -> Written
+fn kind_length(kind: Kind, cells: &[f32], width: usize, height: usize) -> Result<usize, Refusal>
     requires { good_size width height (length cells.now) ≡ true }
-    ensures { result ≡ byte_count (kind_sheet kind width height cells.now) }
+    ensures { given_back result ≡ byte_count (kind_sheet kind width height cells.now) }
 {
-    match cells_length(kind, cells) {
-        Written::Bytes(n) => Written::Bytes(head_length(kind, width, height) + n),
-        Written::Refused(n) => Written::Refused(n),
-    }
+    let n = cells_length(kind, cells)?;
+    Ok(head_length(kind, width, height) + n)
 }
 
 // How many bytes the sheet of a map takes.
-pub fn sheet_length(cells: &[f32], width: usize, height: usize, kind: u64) -> Written
-    ensures { result ≡ byte_count (sheet_of kind width height cells.now) }
+pub fn sheet_length(cells: &[f32], width: usize, height: usize, kind: u64) -> Result<usize, Refusal>
+    ensures { given_back result ≡ byte_count (sheet_of kind width height cells.now) }
 {
-    if size_good(width, height, cells.len()) {
-        match kind_of(kind) {
-            Known::Kind(k) => kind_length(k, cells, width, height),
-            Known::Refused(n) => Written::Refused(n),
-        }
-    } else {
-        Written::Refused(23)
-    }
+    check_size(width, height, cells.len())?;
+    let kind = Kind::try_from(kind)?;
+    kind_length(kind, cells, width, height)
 }
 
 // Puts the head at the front of `out`, and answers the place past it.
@@ -79,7 +65,7 @@ fn put_head(kind: Kind, width: usize, height: usize, out: &mut [u8]) -> usize
     ensures { Wrote out.old 0 (head_bytes kind width height) out.new result }
 {
     let a = put_number(VERSION, out, 0);
-    let b = put_number(kind.number(), out, a);
+    let b = put_number(u64::from(kind), out, a);
     let c = put_number(width as u64, out, b);
     put_number(height as u64, out, c)
 }
@@ -91,49 +77,45 @@ fn put_cells(kind: Kind, cells: &[f32], out: &mut [u8], at: usize) -> usize
     ensures { Wrote out.old at (list_in (cells_bytes kind cells.now)) out.new result }
 {
     let mut next = at;
-    let mut i: usize = 0;
-    while i < cells.len() {
-        match code_of(kind, cells[i]) {
-            Code::Number(n) => {
-                next = put_number(n, out, next);
-            }
-            Code::Refused(_) => {
-                return next;
-            }
-        }
-        i += 1;
+    for x in cells {
+        let Ok(code) = kind.code_of(*x) else {
+            return next;
+        };
+        next = put_number(code, out, next);
     }
     next
 }
 
 // Writes the sheet of a kind.
-fn write_kind(kind: Kind, cells: &[f32], width: usize, height: usize, out: &mut [u8]) -> Written
+fn write_kind(
+    kind: Kind,
+    cells: &[f32],
+    width: usize,
+    height: usize,
+    out: &mut [u8],
+) -> Result<usize, Refusal>
     requires { good_size width height (length cells.now) ≡ true }
     ensures { WriteOutcome 33 result (kind_sheet kind width height cells.now) out.old out.new }
 {
-    match kind_length(kind, cells, width, height) {
-        Written::Bytes(n) => {
-            if out.len() < n {
-                return Written::Refused(33);
-            }
-            let at = put_head(kind, width, height, out);
-            let past = put_cells(kind, cells, out, at);
-            Written::Bytes(past)
-        }
-        Written::Refused(n) => Written::Refused(n),
+    let n = kind_length(kind, cells, width, height)?;
+    if out.len() < n {
+        return Err(Refusal::OutputTooShort);
     }
+    let at = put_head(kind, width, height, out);
+    Ok(put_cells(kind, cells, out, at))
 }
 
 // Writes the sheet of a map of a kind at the front of `out`, and answers its byte count; bytes beyond it are left as they were.
-pub fn write_sheet(cells: &[f32], width: usize, height: usize, kind: u64, out: &mut [u8]) -> Written
+pub fn write_sheet(
+    cells: &[f32],
+    width: usize,
+    height: usize,
+    kind: u64,
+    out: &mut [u8],
+) -> Result<usize, Refusal>
     ensures { WriteOutcome 33 result (sheet_of kind width height cells.now) out.old out.new }
 {
-    if size_good(width, height, cells.len()) {
-        match kind_of(kind) {
-            Known::Kind(k) => write_kind(k, cells, width, height, out),
-            Known::Refused(n) => Written::Refused(n),
-        }
-    } else {
-        Written::Refused(23)
-    }
+    check_size(width, height, cells.len())?;
+    let kind = Kind::try_from(kind)?;
+    write_kind(kind, cells, width, height, out)
 }

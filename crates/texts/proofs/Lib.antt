@@ -1,3 +1,4 @@
--- The laws of digits.
+-- The laws of digits and of pens.
 pub mod Digits
 pub mod Decimals
+pub mod Pens

@@ -1,2 +1,3 @@
--- Numbers as text.
+-- Numbers as text, and what a pen writes.
 pub mod Digits
+pub mod Pen

@@ -8,55 +8,60 @@ use lib.ListN.{length}
 use lib.Ieee.{Float}
 use Rattle.options.specs.declared.BlockMatchOptions.{BlockMatchOptions}
 use Rattle.refusals.specs.Answered.{NoneApplies}
-use Rattle.refusals.specs.Given.{number_back}
+use Rattle.std.specs.Prelude.{Result, Ok}
+use Rattle.refusals.specs.declared.Refusal.{Refusal}
+use Rattle.refusals.specs.Steps.{is}
+use Rattle.refusals.specs.Given.{given_back, number_back}
+use Rattle.refusals.proofs.Numbers.{known_by}
 use Rattle.refusals.specs.Outcome.{answer_for}
 use Rattle.refusals.proofs.Answering.{answered-none}
 use Rattle.calls.specs.declared.Call.{Call}
 use Rattle.calls.specs.Refusals.{area}
 use Rattle.vendor.specs.declared.Check.{Check}
 use Rattle.vendor.specs.declared.Verdict.{Verdict}
-use Rattle.vendor.specs.declared.Verdict.TheVariants.{Yes, No, Refused}
+use Rattle.vendor.specs.declared.Verdict.TheVariants.{Yes, No}
 use Rattle.vendor.specs.Verdict.{check_of, verdict_of}
 use Rattle.vendor.specs.Outcome.{check_rows, vendor_refusal, CheckOutcome}
-use Rattle.vendor.specs.Given.{verdict_given}
 use Rattle.vendor.specs.Meaning.{Good}
 use Rattle.vendor.proofs.Outcomes.{taken, rows-numbered}
 use Rattle.vendor.proofs.Meaning.{FirstBad, yes-means, means-yes, no-means, means-no}
 
 -- an answer that is a verdict was not refused, and is the definition's
-verdict-is : (n : ℕ) (v a : Verdict) → a ≡ answer_for n Refused v → number_back (verdict_given a) ≡ 0 → (n ≡ 0) × (a ≡ v)
-verdict-is zero v a e z = (refl, e)
-verdict-is (suc n) v a e z = let back : suc n ≡ 0 = sym (ap (λ u. number_back (verdict_given u)) e) ∙ z in absurd (omega arith)
+verdict-is : (n : ℕ) (v a : Verdict) → is a ≡ answer_for n v → (n ≡ 0) × (a ≡ v)
+verdict-is zero v a e = (refl, cc)
+verdict-is (suc n) v a e = absurd (omega (arith, ap number_back e))
 
-module _ (answer : Verdict) (q : Call) (o : BlockMatchOptions) (left right : List ℕ) (w h : ℕ) (map : List Float) (room room' : List ℕ) (x : CheckOutcome answer q o left right w h map room room') where
+module _ (answer : Result Verdict Refusal) (q : Call) (o : BlockMatchOptions) (left right : List ℕ) (w h : ℕ) (map : List Float) (room room' : List ℕ) (x : CheckOutcome answer q o left right w h map room room') where
   -- what is checked
   abbrev checked : Check
   checked = check_of q.left_w q.left_h o
 
   -- where the answer is a verdict no row applies, and it is the definition's
-  accepted : number_back (verdict_given answer) ≡ 0 → (vendor_refusal q w h (length map) ≡ 0) × (answer ≡ verdict_of checked left right map)
-  accepted = verdict-is (vendor_refusal q w h (length map)) (verdict_of checked left right map) answer x.answers
+  accepted : (v : Verdict) → answer ≡ Ok v → (vendor_refusal q w h (length map) ≡ 0) × (v ≡ verdict_of checked left right map)
+  accepted v e = verdict-is (vendor_refusal q w h (length map)) (verdict_of checked left right map) v (sym (ap given_back e) ∙ x.answers)
 
   none : vendor_refusal q w h (length map) ≡ 0 → NoneApplies (check_rows q w h (length map))
   unfolding vendor_refusal
   none = (answered-none (check_rows q w h (length map)) (rows-numbered q w h (length map))).0
 
-  by-verdict : NoneApplies (check_rows q w h (length map)) → answer ≡ verdict_of checked left right map
+  by-verdict : NoneApplies (check_rows q w h (length map)) → answer ≡ Ok (verdict_of checked left right map)
   unfolding vendor_refusal
-  by-verdict n = x.answers ∙ ap (λ m. answer_for m Refused (verdict_of checked left right map)) ((answered-none (check_rows q w h (length map)) (rows-numbered q w h (length map))).1 n)
+  by-verdict n =
+      known_by answer (Ok (verdict_of checked left right map))
+      (x.answers ∙ ap (λ m. answer_for m (verdict_of checked left right map)) ((answered-none (check_rows q w h (length map)) (rows-numbered q w h (length map))).1 n))
 
   -- THEOREM: of the call: yes exactly when no row applies and every valid cell is a choice
-  pub yes-call : (answer ≡ Yes) ↔ (NoneApplies (check_rows q w h (length map)) × ((p : ℕ) → p < area q → Good checked left right map p))
+  pub yes-call : (answer ≡ Ok Yes) ↔ (NoneApplies (check_rows q w h (length map)) × ((p : ℕ) → p < area q → Good checked left right map p))
   yes-call = (
-    (λ e. let a = accepted (ap (λ u. number_back (verdict_given u)) e) in (none a.0, yes-means checked left right map (sym a.1 ∙ e))),
-    (λ g. by-verdict g.0 ∙ means-yes checked left right map g.1),
+    (λ e. let a = accepted Yes e in (none a.0, yes-means checked left right map (sym a.1))),
+    (λ g. by-verdict g.0 ∙ ap (λ v. Ok v) (means-yes checked left right map g.1)),
   )
 
   -- THEOREM: of the call: a no names the first bad cell by rows, exactly when no row applies
-  pub no_call : (column row : ℕ) → (answer ≡ No column row) ↔ (NoneApplies (check_rows q w h (length map)) × FirstBad checked left right map column row)
+  pub no_call : (column row : ℕ) → (answer ≡ Ok (No column row)) ↔ (NoneApplies (check_rows q w h (length map)) × FirstBad checked left right map column row)
   no_call column row = (
     (λ e.
-        let a = accepted (ap (λ u. number_back (verdict_given u)) e) in
-        (none a.0, no-means checked left right map (taken q w h (length map) a.0).sizes.w-least column row (sym a.1 ∙ e))),
-    (λ g. by-verdict g.0 ∙ means-no checked left right map column row g.1),
+        let a = accepted (No column row) e in
+        (none a.0, no-means checked left right map (taken q w h (length map) a.0).sizes.w-least column row (sym a.1))),
+    (λ g. by-verdict g.0 ∙ ap (λ v. Ok v) (means-no checked left right map column row g.1)),
   )

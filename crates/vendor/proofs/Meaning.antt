@@ -28,77 +28,77 @@ module _ (q : Check) (left right : List ℕ) (map : List Float) where
   -- a pixel passes exactly where its cell, if valid, is a choice
   pub passes-means : (p : ℕ) → passes q left right map p ≡ true → Good q left right map p
   unfolding passes
-  passes-means p e valid = choice-of q left right (p % q.w) (p / q.w) (get_or map p nan) (rw valid at e)
+  passes-means p e valid = choice-of q left right (p % q.frame.w) (p / q.frame.w) (get_or map p nan) (rw valid at e)
 
   pub means-passes : (p : ℕ) → Good q left right map p → passes q left right map p ≡ true
   unfolding passes
   means-passes p g = go (finite (get_or map p nan)) refl
     where
-      go : (t : Bool) → finite (get_or map p nan) ≡ t → not t || is_choice q left right (p % q.w) (p / q.w) (get_or map p nan) ≡ true
-      go true valid = of-choice q left right (p % q.w) (p / q.w) (get_or map p nan) (g valid)
+      go : (t : Bool) → finite (get_or map p nan) ≡ t → not t || is_choice q left right (p % q.frame.w) (p / q.frame.w) (get_or map p nan) ≡ true
+      go true valid = of-choice q left right (p % q.frame.w) (p / q.frame.w) (get_or map p nan) (g valid)
       go false valid = refl
 
   -- THEOREM: yes exactly when every valid cell is a choice
-  pub yes-means : verdict_of q left right map ≡ Yes → (p : ℕ) → p < q.w * q.h → Good q left right map p
+  pub yes-means : verdict_of q left right map ≡ Yes → (p : ℕ) → p < q.frame.w * q.frame.h → Good q left right map p
   unfolding verdict_of
-  yes-means e p l = passes-means p (all_of (q.w * q.h) (passes q left right map) (go (all_below (q.w * q.h) (passes q left right map)) e) p l)
+  yes-means e p l = passes-means p (all_of (q.frame.w * q.frame.h) (passes q left right map) (go (all_below (q.frame.w * q.frame.h) (passes q left right map)) e) p l)
     where
-      go : (t : Bool) → cond t Yes (No (first_bad q left right map % q.w) (first_bad q left right map / q.w)) ≡ Yes → t ≡ true
+      go : (t : Bool) → cond t Yes (No (first_bad q left right map % q.frame.w) (first_bad q left right map / q.frame.w)) ≡ Yes → t ≡ true
       go true e = refl
       go false e = absurd (yes-no _ _ (sym e))
 
-  pub means-yes : ((p : ℕ) → p < q.w * q.h → Good q left right map p) → verdict_of q left right map ≡ Yes
+  pub means-yes : ((p : ℕ) → p < q.frame.w * q.frame.h → Good q left right map p) → verdict_of q left right map ≡ Yes
   unfolding verdict_of
-  means-yes g = rw (of-all (q.w * q.h) (passes q left right map) (λ p l. means-passes p (g p l)))
+  means-yes g = rw (of-all (q.frame.w * q.frame.h) (passes q left right map) (λ p l. means-passes p (g p l)))
 
   -- THEOREM: a no names the first bad cell by rows: the cells before it are good, and it is not
   pub record FirstBad (x y : ℕ) : Type 0 where
-    pub column : x < q.w
-    pub row : y < q.h
-    pub before : (p : ℕ) → p < y * q.w + x → Good q left right map p
-    pub bad : Good q left right map (y * q.w + x) → ⊥
+    pub column : x < q.frame.w
+    pub row : y < q.frame.h
+    pub before : (p : ℕ) → p < y * q.frame.w + x → Good q left right map p
+    pub bad : Good q left right map (y * q.frame.w + x) → ⊥
 
   -- a pixel that is the first not to pass is the first bad cell
-  first-bad : 1 ≤ q.w → (i : ℕ) → Fails (q.w * q.h) (passes q left right map) i → FirstBad (i % q.w) (i / q.w)
+  first-bad : 1 ≤ q.frame.w → (i : ℕ) → Fails (q.frame.w * q.frame.h) (passes q left right map) i → FirstBad (i % q.frame.w) (i / q.frame.w)
   first-bad some i f =
-      let back : i / q.w * q.w + i % q.w ≡ i = div-add-mod' i q.w in
+      let back : i / q.frame.w * q.frame.w + i % q.frame.w ≡ i = div-add-mod' i q.frame.w in
       record {
         column = mod-lt i some;
-        row = row_below q.w q.h i f.inside;
+        row = row_below q.frame.w q.frame.h i f.inside;
         before = λ p l. passes-means p (f.before p (omega arith));
         bad = λ g. true≢false (sym (means-passes i (subst (Good q left right map) back g)) ∙ f.fails);
       }
 
   -- and is what a no names
-  first-named : (i : ℕ) → Fails (q.w * q.h) (passes q left right map) i → verdict_of q left right map ≡ No (i % q.w) (i / q.w)
+  first-named : (i : ℕ) → Fails (q.frame.w * q.frame.h) (passes q left right map) i → verdict_of q left right map ≡ No (i % q.frame.w) (i / q.frame.w)
   unfolding verdict_of
   first-named i f =
-      let first : first_bad q left right map ≡ i = first-here (q.w * q.h) i (passes q left right map) f.inside f.before f.fails in
-      let other : first_bad q left right map ≡ q.w * q.h → ⊥ = λ e. omega (arith, f.inside) in
-      rw (all_first (q.w * q.h) (passes q left right map), ne_eqb (first_bad q left right map) (q.w * q.h) other, first)
+      let first : first_bad q left right map ≡ i = first-here (q.frame.w * q.frame.h) i (passes q left right map) f.inside f.before f.fails in
+      let other : first_bad q left right map ≡ q.frame.w * q.frame.h → ⊥ = λ e. omega (arith, f.inside) in
+      rw (all_first (q.frame.w * q.frame.h) (passes q left right map), ne_eqb (first_bad q left right map) (q.frame.w * q.frame.h) other, first)
 
-  pub no-means : 1 ≤ q.w → (x y : ℕ) → verdict_of q left right map ≡ No x y → FirstBad x y
+  pub no-means : 1 ≤ q.frame.w → (x y : ℕ) → verdict_of q left right map ≡ No x y → FirstBad x y
   no-means some x y e =
-      ⊎_elim (λ (all : (p : ℕ) → p < q.w * q.h → passes q left right map p ≡ true).
+      ⊎_elim (λ (all : (p : ℕ) → p < q.frame.w * q.frame.h → passes q left right map p ≡ true).
       absurd (yes-no x y (sym (means-yes (λ p l. passes-means p (all p l))) ∙ e)))
-      (λ (f : Fails (q.w * q.h) (passes q left right map) (first_bad q left right map)). named f (sym (first-named (first_bad q left right map) f) ∙ e))
-      (first-or (q.w * q.h) (passes q left right map))
+      (λ (f : Fails (q.frame.w * q.frame.h) (passes q left right map) (first_bad q left right map)). named f (sym (first-named (first_bad q left right map) f) ∙ e))
+      (first-or (q.frame.w * q.frame.h) (passes q left right map))
     where
-      named : {i : ℕ} → Fails (q.w * q.h) (passes q left right map) i → No (i % q.w) (i / q.w) ≡ No x y → FirstBad x y
+      named : {i : ℕ} → Fails (q.frame.w * q.frame.h) (passes q left right map) i → No (i % q.frame.w) (i / q.frame.w) ≡ No x y → FirstBad x y
       named {i} f e =
-          let at : i % q.w ≡ x = cc in
-          let on : i / q.w ≡ y = cc in
+          let at : i % q.frame.w ≡ x = cc in
+          let on : i / q.frame.w ≡ y = cc in
           rw (← at, ← on) (first-bad some i f)
 
   pub means-no : (x y : ℕ) → FirstBad x y → verdict_of q left right map ≡ No x y
   means-no x y f =
-      first-named (y * q.w + x) (record {
-        inside = pixel-in q.w q.h x y f.column f.row;
-        fails = fails (passes q left right map (y * q.w + x)) refl;
+      first-named (y * q.frame.w + x) (record {
+        inside = pixel-in q.frame.w q.frame.h x y f.column f.row;
+        fails = fails (passes q left right map (y * q.frame.w + x)) refl;
         before = λ p l. means-passes p (f.before p l);
       })
-      ∙ ap₂ No (in-column q.w x y f.column) (in-row q.w x y f.column)
+      ∙ ap₂ No (in-column q.frame.w x y f.column) (in-row q.frame.w x y f.column)
     where
-      fails : (t : Bool) → passes q left right map (y * q.w + x) ≡ t → passes q left right map (y * q.w + x) ≡ false
-      fails true e = absurd (f.bad (passes-means (y * q.w + x) e))
+      fails : (t : Bool) → passes q left right map (y * q.frame.w + x) ≡ t → passes q left right map (y * q.frame.w + x) ≡ false
+      fails true e = absurd (f.bad (passes-means (y * q.frame.w + x) e))
       fails false e = e

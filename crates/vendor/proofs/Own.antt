@@ -3,6 +3,7 @@ use Prim.Native.Nat.{ℕ, ◌+◌, ◌*◌, ◌/◌, ◌%◌, ◌≤◌, ◌<◌
 use mathlib.Core.Path.{◌≡◌, refl, sym, ap, ◌∙◌, subst}
 use mathlib.Core.Bool.{Bool, true, false, cond, not, ◌&&◌, true≢false}
 use mathlib.Core.List.{List, map}
+use Rattle.std.specs.Prelude.{Result, Ok, Option, Some, None}
 use native.Mathlib.Nat.{mod-lt, div-add-mod'}
 use lib.ListN.{length, get_or}
 use lib.Ieee.{Float, nan, lt}
@@ -17,7 +18,10 @@ use Rattle.options.specs.declared.Side.TheVariants.{Left, Right}
 use Rattle.options.specs.Costs.{stored, raw_of, InRange}
 use Rattle.options.proofs.Stored.{stored_back}
 use Rattle.refusals.specs.Answered.{first_of}
-use Rattle.refusals.specs.Outcome.{answer_for}
+use Rattle.refusals.specs.declared.Refusal.{Refusal}
+use Rattle.refusals.specs.Steps.{is}
+use Rattle.refusals.proofs.Numbers.{known_by}
+use Rattle.refusals.proofs.Cases.{answer-made}
 use Rattle.calls.specs.Refusals.{picture_rows, search_rows, pair_rows, whole_cells_of}
 use Rattle.calls.specs.Accepted.{Sizes}
 use Rattle.calls.proofs.Rows.{none, accepted}
@@ -25,7 +29,6 @@ use Rattle.costs.proofs.Laws.{raw-cost-bound, volume-cell}
 use Rattle.maps.specs.declared.Cell.TheVariants.{Mark, At}
 use Rattle.maps.specs.Cells.{in_buffer}
 use Rattle.choices.specs.declared.block.Best.{Best}
-use Rattle.choices.specs.declared.block.Best.TheVariants.{Nothing, Found}
 use Rattle.choices.specs.declared.block.Gates.{Gates}
 use Rattle.choices.specs.declared.subpixel.Search.{Search}
 use Rattle.options.specs.Frame.{inner}
@@ -39,7 +42,7 @@ use Rattle.matching.specs.Outcome.{match_call, MatchOutcome}
 use Rattle.matching.specs.Accepted.{Levels, AcceptedPair}
 use Rattle.matching.proofs.SideMaps.{cell_from, side-length, side-at}
 use Rattle.vendor.specs.declared.Verdict.{Verdict}
-use Rattle.vendor.specs.declared.Verdict.TheVariants.{Yes, Refused}
+use Rattle.vendor.specs.declared.Verdict.TheVariants.{Yes}
 use Rattle.vendor.specs.Verdict.{check_of, cost_at, verdict_of}
 use Rattle.vendor.specs.Outcome.{vendor_call, CheckOutcome}
 use Rattle.vendor.specs.Meaning.{Choice, Good}
@@ -69,23 +72,23 @@ module _ (search : Search) (gates : Gates) (costs : List RawCost) (whole : searc
   placed-whole numbers k best = rw whole
 
   -- what the gates let pass was taken
-  gated-taken : (b : Best) → Finds (λ j. j < length costs) costs b → finite (in_buffer (gated search gates costs b)) ≡ true
+  gated-taken : (b : Option Best) → Finds (λ j. j < length costs) costs b → finite (in_buffer (gated search gates costs b)) ≡ true
       → Taken search gates.min_correlation costs (in_buffer (gated search gates costs b))
   unfolding gated
-  gated-taken Nothing f valid = absurd (no_number valid)
-  gated-taken (Found k best) f valid = go (lt best gates.min_correlation) refl (too_close best (competitor k costs) gates.uniqueness_ratio) valid
+  gated-taken None f valid = absurd (no_number valid)
+  gated-taken (Some b) f valid = go (lt b.cost gates.min_correlation) refl (too_close b.cost (competitor b.k costs) gates.uniqueness_ratio) valid
     where
       cell : Bool → Bool → Float
-      cell s t = in_buffer (cond s Mark (cond t Mark (At (placed search (map stored costs) k best))))
+      cell s t = in_buffer (cond s Mark (cond t Mark (At (placed search (map stored costs) b.k b.cost))))
 
-      go : (s : Bool) → lt best gates.min_correlation ≡ s → (t : Bool) → finite (cell s t) ≡ true → Taken search gates.min_correlation costs (cell s t)
+      go : (s : Bool) → lt b.cost gates.min_correlation ≡ s → (t : Bool) → finite (cell s t) ≡ true → Taken search gates.min_correlation costs (cell s t)
       go true e t v = absurd (no_number v)
       go false e true v = absurd (no_number v)
       go false e false v = record {
-        k = k;
+        k = b.k;
         searched = f.counts;
-        is = placed-whole (map stored costs) k best;
-        cost = best;
+        is = placed-whole (map stored costs) b.k b.cost;
+        cost = b.cost;
         there = f.there;
         enough = e;
         unbeaten = f.none_above;
@@ -222,9 +225,9 @@ same_rows left right w h o out whole float room e = e
 pub own-call : (w h : ℕ) (o : BlockMatchOptions) (left right : List ℕ) (out out' : List Float) (whole whole' : List ℕ) (float float' : List Float)
     → Levels left → Levels right → o.mode ≡ Block → o.subpixel ≡ false
     → MatchOutcome 0 (match_call left w h right w h o (length out) (length whole) (length float)) o left right out out' whole whole' float float'
-    → (answer : Verdict) (room room' : List ℕ) → whole_cells_of (vendor_call left w h right w h o (length room)) ≤ length room
+    → (answer : Result Verdict Refusal) (room room' : List ℕ) → whole_cells_of (vendor_call left w h right w h o (length room)) ≤ length room
     → CheckOutcome answer (vendor_call left w h right w h o (length room)) o left right w h out' room room'
-    → answer ≡ Yes
+    → answer ≡ Ok Yes
 own-call w h o left right out out' whole whole' float float' ll lr block noSub done answer room room' long check =
     let a : AcceptedPair w h o left right = record {
       out = length out;
@@ -234,11 +237,11 @@ own-call w h o left right out out' whole whole' float float' ll lr block noSub d
       left-levels = ll;
       right-levels = lr;
     } in
-    let is : out' ≡ map_of w h o left right = done.output in
-    let size : length out' ≡ w * h = rw is (map-length w h o block left right) in
+    let is_map : out' ≡ map_of w h o left right = done.output in
+    let size : length out' ≡ w * h = rw is_map (map-length w h o block left right) in
     let pair = (none (match_call left w h right w h o (length out) (length whole) (length float)) (sym done.answer)).pair in
-    let zero = sym (nothing (vendor_call left w h right w h o (length room)) w h (length out') (same_rows left right w h o _ _ _ (length room) pair) refl refl size long) in
-    check.answers
-    ∙ ap (λ n. answer_for n Refused (verdict_of (check_of w h o) left right out')) zero
-    ∙ ap (verdict_of (check_of w h o) left right) is
-    ∙ own-passes w h o left right a block noSub
+    let zero = nothing (vendor_call left w h right w h o (length room)) w h (length out') (same_rows left right w h o _ _ _ (length room) pair) refl refl size long in
+    known_by answer (Ok Yes)
+    (check.answers
+    ∙ sym (answer-made (verdict_of (check_of w h o) left right out') zero)
+    ∙ ap is (ap (verdict_of (check_of w h o) left right) is_map ∙ own-passes w h o left right a block noSub))

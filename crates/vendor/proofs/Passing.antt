@@ -96,7 +96,7 @@ module _ (search : Search) (v : Float) (good : ℕ → Bool) where
   none_named : ((k : ℕ) → k < search.count → not (eq v (disparity search k)) ≡ true) → some_below search.count (named search v good) ≡ false
   none_named h = some-none search.count (named search v good) (λ k l. ap (λ t. t && good k) (not-true (eq v (disparity search k)) (h k l)))
 
-module _ (q : Check) (left right : List ℕ) (z : CheckSizes q) (pl : Picture q.w q.h left) (pr : Picture q.w q.h right) (x y : ℕ) (v : Float) where
+module _ (q : Check) (left right : List ℕ) (z : CheckSizes q) (pl : Picture q.frame.w q.frame.h left) (pr : Picture q.frame.w q.frame.h right) (x y : ℕ) (v : Float) where
   -- the test of a number's own raw cost says whether the number is a choice
   own-choice : tested q.least q.search.count (cost_at q left right x y) (own_cost q left right x y v) ≡ is_choice q left right x y v
   unfolding own_cost index_named
@@ -106,7 +106,7 @@ module _ (q : Check) (left right : List ℕ) (z : CheckSizes q) (pl : Picture q.
       let other : ℕ → Bool = λ k. not (eq v (disparity s k)) in
       let costs : ℕ → RawCost = cost_at q left right x y in
       let good : ℕ → Bool = λ k. stands q.least n costs (costs k) in
-      let range : (k : ℕ) → InRange (costs k) = λ k. raw-cost-bound Left q.w q.h q.r s.first left right x y k z.frame.r-most pl pr in
+      let range : (k : ℕ) → InRange (costs k) = λ k. raw-cost-bound Left q.frame.w q.frame.h q.frame.r s.first left right x y k z.frame.r-most pl pr in
       ⊎_elim
       (λ (h : (k : ℕ) → k < n → other k ≡ true).
       rw (first-none n other h, le-ltb n n (le_refl n)) (tested-stands q.least n costs range Blank tt ∙ sym (none_named s v good h)))
@@ -124,10 +124,10 @@ or-each true a n b = refl
 or-each false a n b = of-all n _ (λ k l. refl)
 
 -- its own raw cost is fit, and that of no index beats it
-pub passes-holds : (q : Check) (left right : List ℕ) → CheckSizes q → Picture q.w q.h left → Picture q.w q.h right → (map : List Float) (p : ℕ)
+pub passes-holds : (q : Check) (left right : List ℕ) → CheckSizes q → Picture q.frame.w q.frame.h left → Picture q.frame.w q.frame.h right → (map : List Float) (p : ℕ)
     → holds_at q left right Fit map p && all_below q.search.count (λ k. holds_at q left right (Unbeaten k) map p) ≡ passes q left right map p
 unfolding holds_at passes
 passes-holds q left right z pl pr map p =
     let v = get_or map p nan in
-    or-each (finite v) (holds q left right (p % q.w) (p / q.w) Fit v) q.search.count (λ k. holds q left right (p % q.w) (p / q.w) (Unbeaten k) v)
-    ∙ ap (λ t. not (finite v) || t) (own-choice q left right z pl pr (p % q.w) (p / q.w) v)
+    or-each (finite v) (holds q left right (p % q.frame.w) (p / q.frame.w) Fit v) q.search.count (λ k. holds q left right (p % q.frame.w) (p / q.frame.w) (Unbeaten k) v)
+    ∙ ap (λ t. not (finite v) || t) (own-choice q left right z pl pr (p % q.frame.w) (p / q.frame.w) v)

@@ -8,6 +8,9 @@ use borrow.Rule.Slice.PartMut.{mid_len}
 use lib.IntN.{ℤ, pos, negsuc, ◌+ℤ◌}
 use lib.ListN.{length, get_or, drop}
 use lib.Seq.{get_or-take, get_or-drop}
+use Rattle.std.specs.List.{zip}
+use Rattle.std.proofs.lemmas.Slice.Zip.{length-zip, get_or-zip}
+use Rattle.std.proofs.lemmas.Grind.{get_or_default_zero}
 use Rattle.lists.specs.Rows.{row_of, level_at}
 use Rattle.lists.specs.Sums.{sum_to, sum_rect}
 use Rattle.lists.proofs.Rows.{row_at}
@@ -18,7 +21,27 @@ use Rattle.windows.specs.Parts.{product_in}
 use Rattle.windows.proofs.Tables.{Spots, spots, level-small}
 use Rattle.windows.proofs.Crossed.{lent}
 use Rattle.costs.proofs.Spans.{Apart, apart-says, apart-is}
-use Rattle.vendor.specs.Inner.{TwoWindows}
+use Rattle.windows.specs.Window.{Inside}
+use Rattle.costs.specs.Rooms.{WindowFits}
+
+-- a pair of two rows' levels gives the product at its column
+pub pair-product : (a b : List ℕ) → length b ≡ length a → (i : ℕ) (q : ℕ × ℕ) → i < length (zip a b) → q ≡ get_or (zip a b) i q
+    → (i < length a) × (q.0 * q.1 ≡ product_in a b i)
+pair-product a b same i q below e =
+    let in_a : i < length a = omega (arith, length-zip a b) in
+    let in_b : i < length b = omega arith in
+    let pair = e ∙ get_or-zip a b i q in_a in_b in (
+      in_a,
+      ap₂ (λ m n. m * n) (ap (λ (p : ℕ × ℕ). p.0) pair ∙ get_or_default_zero a i q.0 in_a) (ap (λ (p : ℕ × ℕ). p.1) pair ∙ get_or_default_zero b i q.1 in_b),
+    )
+
+-- two pictures, with a window at (x, y) of the first and one at (x', y) of the second
+pub record TwoWindows (a b : List ℕ) (w h r x x' y : ℕ) : Type 0 where
+  pub frame : WindowFits w h r
+  pub a-bytes : length a ≡ w * h
+  pub b-bytes : length b ≡ w * h
+  pub first : Inside w h x y r
+  pub second : Inside w h x' y r
 
 -- a part of n cells that is lent has n cells, and its cell i is the list's i cells further on
 part_length : (k n : ℕ) (l : List ℕ) → k + n ≤ length l → length (lent k n l) ≡ n
@@ -54,7 +77,7 @@ module _ {a b : List ℕ} {w h r x x' y : ℕ} (p : TwoWindows a b w h r x x' y)
     pub row-spots : Spots w h (y - r + j)
     row-spots = spots w h (y - r + j) p.frame.w-most p.frame.h-most (omega (arith, p.first.top, p.first.bottom))
 
-    -- where its two parts begin, and that each has the window's width
+    -- where its two parts begin, and that the first has the window's width
     abbrev here : ℕ
     here = (y - r + j) * w + (x - r)
 
@@ -63,9 +86,6 @@ module _ {a b : List ℕ} {w h r x x' y : ℕ} (p : TwoWindows a b w h r x x' y)
 
     pub here-length : length (lent here (2 * r + 1) a) ≡ 2 * r + 1
     here-length = part_length here (2 * r + 1) a (omega (arith, row-spots, p.a-bytes, p.first.left, p.first.right))
-
-    pub there-length : length (lent there (2 * r + 1) b) ≡ 2 * r + 1
-    there-length = part_length there (2 * r + 1) b (omega (arith, row-spots, p.b-bytes, p.second.left, p.second.right))
 
     -- the level of a picture in a lent part of its row
     level-part : (c i : ℕ) (pic : List ℕ) → i < 2 * r + 1 → c + i < w → get_or (lent ((y - r + j) * w + c) (2 * r + 1) pic) i 0 ≡ level_at w pic (c + i) (y - r + j)

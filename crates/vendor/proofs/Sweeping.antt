@@ -9,14 +9,14 @@ use native.Mathlib.Omega.{arith}
 use borrow.Rule.Slice.PartMut.{put_mid, mid_of, post_of, mid_len, same_len_mid, drop_put}
 use lib.IntN.{ℤ}
 use lib.Ieee.{Float}
-use lib.ListN.{length, take, drop, length-append, take-append-drop}
+use lib.ListN.{length, take, drop, length-append}
 use lib.Seq.{take_at}
 use Rattle.lists.specs.Lists.{all_below, first_not}
 use Rattle.windows.specs.Table.{table_of, cross_at}
 use Rattle.windows.specs.Window.{cells}
 use Rattle.windows.proofs.Tables.{length-table}
 use Rattle.costs.specs.Roots.{picture_tables}
-use Rattle.costs.specs.Rooms.{WindowFits, Picture, TablesOf, five_parts, RoomOf}
+use Rattle.costs.specs.Rooms.{Picture, TablesOf, five_parts, RoomOf}
 use Rattle.costs.proofs.Readings.{tables-of}
 use Rattle.costs.proofs.Volumes.{length-picture}
 use Rattle.vendor.specs.declared.Check.{Check}
@@ -28,16 +28,14 @@ use Rattle.lists.proofs.Firsts.{first-both, first-same, first-most}
 use Rattle.vendor.proofs.Passing.{passes-holds}
 
 -- ---- the room
--- a room whose first cells are the two pictures' tables
-pub tables-taken : (w h r : ℕ) (a b room : List ℕ) → WindowFits w h r → Picture w h a → Picture w h b
-    → take (4 * cells w h) room ≡ picture_tables w h r a ++ picture_tables w h r b → TablesOf room w h r a b
-tables-taken w h r a b room f pa pb is = record {
-  rest = drop (4 * cells w h) room;
-  frame = f;
-  first = pa;
-  second = pb;
-  is = sym (take-append-drop (4 * cells w h) room) ∙ ap (λ l. l ++ drop (4 * cells w h) room) is;
-}
+module _ {room : List ℕ} {w h r : ℕ} {a b : List ℕ} (t : TablesOf room w h r a b) where
+  -- the pictures' tables take four parts of five
+  tables-size : length (picture_tables w h r a ++ picture_tables w h r b) ≡ 4 * cells w h
+  tables-size = length-append (picture_tables w h r a) (picture_tables w h r b) ∙ omega (arith, length-picture w h r a, length-picture w h r b)
+
+  -- and are what the room begins with
+  tables-are : take (4 * cells w h) room ≡ picture_tables w h r a ++ picture_tables w h r b
+  tables-are = ap (take (4 * cells w h)) t.is ∙ take_at (picture_tables w h r a ++ picture_tables w h r b) t.rest (4 * cells w h) tables-size
 
 module _ {room : List ℕ} {w h r : ℕ} {a b : List ℕ} (t : TablesOf room w h r a b) (fits : 5 * cells w h ≤ length room) where
   -- the room with another table of products
@@ -50,14 +48,6 @@ module _ {room : List ℕ} {w h r : ℕ} {a b : List ℕ} (t : TablesOf room w h
     where
       size : (c : ℕ) → 5 * c - 4 * c ≡ c
       size c = omega arith
-
-  -- the pictures' tables take four parts of five
-  tables-size : length (picture_tables w h r a ++ picture_tables w h r b) ≡ 4 * cells w h
-  tables-size = length-append (picture_tables w h r a) (picture_tables w h r b) ∙ omega (arith, length-picture w h r a, length-picture w h r b)
-
-  -- and are what the room begins with
-  tables-are : take (4 * cells w h) room ≡ picture_tables w h r a ++ picture_tables w h r b
-  tables-are = ap (take (4 * cells w h)) t.is ∙ take_at (picture_tables w h r a ++ picture_tables w h r b) t.rest (4 * cells w h) tables-size
 
   module _ (s : ℤ) (part : List ℕ) (made : part ≡ table_of w h (cross_at w a b s)) where
     -- the table that is put there has its size
@@ -72,7 +62,7 @@ module _ {room : List ℕ} {w h r : ℕ} {a b : List ℕ} (t : TablesOf room w h
       frame = t.frame;
       first = t.first;
       second = t.second;
-      is = rw (tables-are, made) (sym (append_assoc (picture_tables w h r a ++ picture_tables w h r b) (table_of w h (cross_at w a b s)) (post_of (4 * cells w h) (5 * cells w h - 4 * cells w h) room)));
+      is = rw (tables-are t, made) (sym (append_assoc (picture_tables w h r a ++ picture_tables w h r b) (table_of w h (cross_at w a b s)) (post_of (4 * cells w h) (5 * cells w h - 4 * cells w h) room)));
     }
 
     -- the room is as long as it was
@@ -92,38 +82,38 @@ asked q left right map k p = holds_at q left right Fit map p && all_below k (λ 
 pub record SweepInv (q : Check) (left right : List ℕ) (map : List Float) (room₀ room : List ℕ) (limit k : ℕ) : Type 0 where
   pub within : k ≤ q.search.count
   pub room-size : length room ≡ length room₀
-  pub tables : TablesOf room q.w q.h q.r left right
-  pub rest : drop (5 * cells q.w q.h) room ≡ drop (5 * cells q.w q.h) room₀
-  pub first : limit ≡ first_not (q.w * q.h) (asked q left right map k)
+  pub tables : TablesOf room q.frame.w q.frame.h q.frame.r left right
+  pub rest : drop (5 * cells q.frame.w q.frame.h) room ≡ drop (5 * cells q.frame.w q.frame.h) room₀
+  pub first : limit ≡ first_not (q.frame.w * q.frame.h) (asked q left right map k)
 
 -- before the first index: the pixels are asked for their own raw cost only
-pub sweep-start : (q : Check) (left right : List ℕ) (map : List Float) (room : List ℕ) (limit : ℕ) → TablesOf room q.w q.h q.r left right
-    → limit ≡ first_not (q.w * q.h) (holds_at q left right Fit map) → SweepInv q left right map room room limit 0
+pub sweep-start : (q : Check) (left right : List ℕ) (map : List Float) (room : List ℕ) (limit : ℕ) → TablesOf room q.frame.w q.frame.h q.frame.r left right
+    → limit ≡ first_not (q.frame.w * q.frame.h) (holds_at q left right Fit map) → SweepInv q left right map room room limit 0
 unfolding all_below
 sweep-start q left right map room limit t e = record {
   within = omega arith;
   room-size = refl;
   tables = t;
   rest = refl;
-  first = e ∙ first-same (q.w * q.h) _ _ (λ p _. sym (and-true (holds_at q left right Fit map p)));
+  first = e ∙ first-same (q.frame.w * q.frame.h) _ _ (λ p _. sym (and-true (holds_at q left right Fit map p)));
 }
 
 module _ {q : Check} {left right : List ℕ} {map : List Float} {room₀ room : List ℕ} {limit k : ℕ} (i : SweepInv q left right map room₀ room limit k) where
   -- the limit is no further than the last pixel's end
-  pub limit-most : limit ≤ q.w * q.h
-  limit-most = rw i.first (first-most (q.w * q.h) (asked q left right map k))
+  pub limit-most : limit ≤ q.frame.w * q.frame.h
+  limit-most = rw i.first (first-most (q.frame.w * q.frame.h) (asked q left right map k))
 
   -- the limit after one index more
-  next-first : (next : ℕ) → next ≡ first_not limit (holds_at q left right (Unbeaten k) map) → next ≡ first_not (q.w * q.h) (asked q left right map (k + 1))
+  next-first : (next : ℕ) → next ≡ first_not limit (holds_at q left right (Unbeaten k) map) → next ≡ first_not (q.frame.w * q.frame.h) (asked q left right map (k + 1))
   unfolding all_below
   next-first next e =
       e
       ∙ ap (λ n. first_not n (holds_at q left right (Unbeaten k) map)) i.first
-      ∙ first-both (q.w * q.h) (asked q left right map k) (holds_at q left right (Unbeaten k) map)
-      ∙ first-same (q.w * q.h) _ _ (λ p _. rw (add-one k) (and_assoc (holds_at q left right Fit map p) (all_below k (λ j. holds_at q left right (Unbeaten j) map p)) (holds_at q left right (Unbeaten k) map p)))
+      ∙ first-both (q.frame.w * q.frame.h) (asked q left right map k) (holds_at q left right (Unbeaten k) map)
+      ∙ first-same (q.frame.w * q.frame.h) _ _ (λ p _. rw (add-one k) (and_assoc (holds_at q left right Fit map p) (all_below k (λ j. holds_at q left right (Unbeaten j) map p)) (holds_at q left right (Unbeaten k) map p)))
 
   -- one index more: the products' table is filled for it, and the limit moved
-  pub sweep-again : (fits : 5 * cells q.w q.h ≤ length room) (s : ℤ) (part : List ℕ) → part ≡ table_of q.w q.h (cross_at q.w left right s) → k < q.search.count
+  pub sweep-again : (fits : 5 * cells q.frame.w q.frame.h ≤ length room) (s : ℤ) (part : List ℕ) → part ≡ table_of q.frame.w q.frame.h (cross_at q.frame.w left right s) → k < q.search.count
       → (next : ℕ) → next ≡ first_not limit (holds_at q left right (Unbeaten k) map) → SweepInv q left right map room₀ (refilled i.tables fits part) next (k + 1)
   sweep-again fits s part made more next e = record {
     within = omega arith;
@@ -134,8 +124,8 @@ module _ {q : Check} {left right : List ℕ} {map : List Float} {room₀ room : 
   }
 
   -- after the last index every pixel before the limit passes
-  pub sweep-done : CheckSizes q → Picture q.w q.h left → Picture q.w q.h right → q.search.count ≤ k → limit ≡ first_bad q left right map
+  pub sweep-done : CheckSizes q → Picture q.frame.w q.frame.h left → Picture q.frame.w q.frame.h right → q.search.count ≤ k → limit ≡ first_bad q left right map
   sweep-done z pl pr l =
       i.first
-      ∙ ap (λ n. first_not (q.w * q.h) (asked q left right map n)) (le_antisymm i.within l)
-      ∙ first-same (q.w * q.h) _ _ (λ p _. passes-holds q left right z pl pr map p)
+      ∙ ap (λ n. first_not (q.frame.w * q.frame.h) (asked q left right map n)) (le_antisymm i.within l)
+      ∙ first-same (q.frame.w * q.frame.h) _ _ (λ p _. passes-holds q left right z pl pr map p)

@@ -1,10 +1,13 @@
 -- The target column of a pixel, and the raw cost there. Assumes nothing.
-use Prim.Native.Nat.{ℕ, ◌+◌, ◌≤◌, ◌<◌}
+use Prim.Native.Nat.{ℕ, ◌+◌, ◌*◌, ◌≤◌, ◌<◌}
 use mathlib.Core.Path.{◌≡◌, refl, sym, ap, ap₂, ◌∙◌, subst}
-use mathlib.Core.Bool.{Bool, true, false, cond, true≢false}
-use mathlib.Core.List.{List}
+use mathlib.Core.Bool.{Bool, true, false, true≢false}
+use mathlib.Core.List.{List, ◌++◌}
+use lib.ListN.{drop, take-append-drop}
 use native.Mathlib.Omega.{arith}
 use borrow.Author.Tests.{ltb-true}
+use Rattle.std.specs.Prelude.{Some, None}
+use Rattle.std.specs.Bool.{then_some}
 use lib.IntN.{ℤ, pos, negsuc, nat_abs, ◌+ℤ◌}
 use lib.Signed.{lt_z}
 use mir.Syntax.{w32, w64}
@@ -13,47 +16,42 @@ use mir.ValLaws.{to_z-of_z, to_z_pos}
 use Rattle.lists.proofs.Sizes.{sum-size, small-fits}
 use Rattle.lists.proofs.Tests.{and_both}
 use Rattle.options.proofs.Frames.{says-within, within-says}
-use Rattle.options.specs.Limits.{most_count, first_most, shift_most}
+use Rattle.options.specs.Limits.{first_most, shift_most}
 use Rattle.options.specs.declared.RawCost.TheVariants.{Blank}
 use Rattle.options.specs.declared.Side.TheVariants.{Left}
 use Rattle.windows.specs.Table.{cross_at}
-use Rattle.windows.specs.Window.{Inside, window_sum}
+use Rattle.windows.specs.Window.{Inside, cells, window_sum}
 use Rattle.options.specs.Frame.{within, is_in_frame}
 use Rattle.costs.specs.Raw.{shift_of, pair_cost, raw_cost}
-use Rattle.costs.specs.Rooms.{RoomReady, Pair, WindowsSummed}
+use Rattle.costs.specs.Rooms.{TablesOf, RoomOf, Pair, WindowsSummed}
 use Rattle.costs.proofs.Frames.{Found, target_found, blank-unless}
 use Rattle.costs.proofs.Signed.{shift-most}
 use Rattle.vendor.specs.declared.Check.{Check}
 use Rattle.vendor.specs.Verdict.{cost_at}
 use Rattle.vendor.specs.Tests.{shift_at, column_in, target_of}
-use Rattle.vendor.specs.Inner.{CheckSizes, TwoWindows, Tabled}
+use Rattle.vendor.specs.Inner.{CheckSizes, Tabled}
 
 -- ---- the tests, one after the other
 
--- a column left of the picture, one where a window lies within it, and one where none does
+-- a column left of the picture, and one that is not, where a window may lie within it
 module _ (w r : ℕ) where
-  pub column-left : (z : ℤ) → lt_z z (pos 0) ≡ true → w ≡ column_in w r z
+  pub column-left : (z : ℤ) → lt_z z (pos 0) ≡ true → None ≡ column_in w r z
   unfolding column_in
   column-left (pos n) e = absurd (omega (arith, ltb-true n 0 e))
   column-left (negsuc n) e = refl
 
-  pub column-is : (z : ℤ) → lt_z z (pos 0) ≡ false → within w r (nat_abs z) ≡ true → nat_abs z ≡ column_in w r z
+  pub column-is : (z : ℤ) → lt_z z (pos 0) ≡ false → then_some (within w r (nat_abs z)) (nat_abs z) ≡ column_in w r z
   unfolding column_in
-  column-is (pos n) e t = rw t
-  column-is (negsuc n) e t = absurd (true≢false e)
-
-  pub column-off : (z : ℤ) → lt_z z (pos 0) ≡ false → within w r (nat_abs z) ≡ false → w ≡ column_in w r z
-  unfolding column_in
-  column-off (pos n) e t = rw t
-  column-off (negsuc n) e t = absurd (true≢false e)
+  column-is (pos n) e = refl
+  column-is (negsuc n) e = absurd (true≢false e)
 
 -- a pixel outside the inner frame, and one within it
 module _ (q : Check) (x y k : ℕ) where
-  pub off-frame : is_in_frame q.w q.h q.r x y ≡ false → q.w ≡ target_of q x y k
+  pub off-frame : is_in_frame q.frame.w q.frame.h q.frame.r x y ≡ false → None ≡ target_of q x y k
   unfolding target_of
   off-frame e = rw e
 
-  pub on-frame : is_in_frame q.w q.h q.r x y ≡ true → column_in q.w q.r (pos x +ℤ shift_at q k) ≡ target_of q x y k
+  pub on-frame : is_in_frame q.frame.w q.frame.h q.frame.r x y ≡ true → column_in q.frame.w q.frame.r (pos x +ℤ shift_at q k) ≡ target_of q x y k
   unfolding target_of
   on-frame e = rw e
 
@@ -76,11 +74,7 @@ module _ (q : Check) (z : CheckSizes q) where
   first_back = to_z-of_z w64 (to_z w32 (of_z w32 q.search.first)) first-cast ∙ first_read
 
   module _ (k : ℕ) (lk : k < q.search.count) where
-    -- what the shift asks
-    pub shift-ready : (nat_abs (to_z w64 (of_z w64 (to_z w32 (of_z w32 q.search.first)))) ≤ first_most) × (k < most_count)
-    shift-ready = rw first_back (z.searched.close, omega (arith, z.searched.few))
-
-    module _ (x : ℕ) (lx : x < q.w) (s : ℤ) (e : s ≡ shift_of Left (to_z w64 (of_z w64 (to_z w32 (of_z w32 q.search.first)))) k) where
+    module _ (x : ℕ) (lx : x < q.frame.w) (s : ℤ) (e : s ≡ shift_of Left (to_z w64 (of_z w64 (to_z w32 (of_z w32 q.search.first)))) k) where
       -- the column is the pixel's plus the shift, and small
       shift_is : s ≡ shift_at q k
       shift_is = e ∙ ap (λ f. shift_of Left f k) first_back
@@ -99,9 +93,6 @@ module _ (q : Check) (z : CheckSizes q) where
       column-small : SFits w64 (pos x +ℤ shift_at q k)
       column-small = small-fits (pos x +ℤ shift_at q k) (omega (arith, column-most, z.frame.w-most))
 
-      pub column_fits : SFits w64 (to_z w64 x +ℤ to_z w64 (of_z w64 s))
-      column_fits = rw operands column-small
-
       pub column-back : to_z w64 (of_z w64 (to_z w64 x +ℤ to_z w64 (of_z w64 s))) ≡ pos x +ℤ shift_at q k
       column-back = rw operands (to_z-of_z w64 (pos x +ℤ shift_at q k) column-small)
 
@@ -109,84 +100,87 @@ module _ (q : Check) (z : CheckSizes q) where
 
 -- a target column that is found: both windows lie within the pictures
 pub record Aimed (q : Check) (x y k t : ℕ) : Type 0 where
-  pub first : Inside q.w q.h x y q.r
-  pub second : Inside q.w q.h t y q.r
+  pub first : Inside q.frame.w q.frame.h x y q.frame.r
+  pub second : Inside q.frame.w q.frame.h t y q.frame.r
   pub apart : pos x +ℤ shift_at q k ≡ pos t
+
+-- no column is one
+no-column : (t : ℕ) → None ≡ Some t → ⊥
+no-column t e = let z : ◌≡◌ {A = ℕ} 0 1 = cc in omega arith
 
 -- a column that is one, as it is found
 module _ (w r : ℕ) where
-  found_in : (z : ℤ) → (column_in w r z ≡ w → ⊥) → Found w r z (column_in w r z)
+  found_in : (z : ℤ) (t : ℕ) → column_in w r z ≡ Some t → Found w r z t
   unfolding column_in
-  found_in (negsuc n) off = absurd (off refl)
-  found_in (pos n) off = go (within w r n) refl
+  found_in (negsuc n) t e = absurd (no-column t e)
+  found_in (pos n) t e = go (within w r n) refl e
     where
-      go : (b : Bool) → within w r n ≡ b → Found w r (pos n) (cond (within w r n) n w)
-      go true i = rw i (let s = within-says w r n i in record { column = refl; left = s.0; right = s.1 })
-      go false i = absurd (off (rw i))
+      go : (b : Bool) → within w r n ≡ b → then_some b n ≡ Some t → Found w r (pos n) t
+      go true i e =
+          let same : n ≡ t = cc in
+          let s = within-says w r n i in
+          subst (Found w r (pos n)) same (record { column = refl; left = s.0; right = s.1 })
+      go false i e = absurd (no-column t e)
 
-  in-found : (z : ℤ) (t : ℕ) → Found w r z t → column_in w r z ≡ t
+  in-found : (z : ℤ) (t : ℕ) → Found w r z t → column_in w r z ≡ Some t
   unfolding column_in
   in-found z t f = rw (f.column, says-within w r t f.left f.right)
 
-module _ (q : Check) (x y k t : ℕ) (e : t ≡ target_of q x y k) where
-  -- a target column that is not the width is found
-  pub aimed : (t ≡ q.w → ⊥) → Aimed q x y k t
-  aimed off = go (is_in_frame q.w q.h q.r x y) refl
+module _ (q : Check) (x y k : ℕ) where
+  -- a target column is found
+  pub aimed : (t : ℕ) → Some t ≡ target_of q x y k → Aimed q x y k t
+  aimed t e = go (is_in_frame q.frame.w q.frame.h q.frame.r x y) refl
     where
-      go : (b : Bool) → is_in_frame q.w q.h q.r x y ≡ b → Aimed q x y k t
-      go false i = absurd (off (e ∙ sym (off-frame q x y k i)))
+      go : (b : Bool) → is_in_frame q.frame.w q.frame.h q.frame.r x y ≡ b → Aimed q x y k t
+      go false i = absurd (no-column t (off-frame q x y k i ∙ sym e))
       go true i =
-          let is : t ≡ column_in q.w q.r (pos x +ℤ shift_at q k) = e ∙ sym (on-frame q x y k i) in
-          let f : Found q.w q.r (pos x +ℤ shift_at q k) t =
-          subst (λ n. Found q.w q.r (pos x +ℤ shift_at q k) n) (sym is) (found_in q.w q.r (pos x +ℤ shift_at q k) (λ c. off (is ∙ c))) in
-          let both = and_both (within q.w q.r x) (within q.h q.r y) i in
-          let here = within-says q.w q.r x both.0 in
-          let row = within-says q.h q.r y both.1 in
+          let f = found_in q.frame.w q.frame.r (pos x +ℤ shift_at q k) t (on-frame q x y k i ∙ sym e) in
+          let both = and_both (within q.frame.w q.frame.r x) (within q.frame.h q.frame.r y) i in
+          let here = within-says q.frame.w q.frame.r x both.0 in
+          let row = within-says q.frame.h q.frame.r y both.1 in
           record {
             first = record { left = here.0; right = here.1; top = row.0; bottom = row.1 };
             second = record { left = f.left; right = f.right; top = row.0; bottom = row.1 };
             apart = f.column;
           }
 
-  -- and where it is the width the raw cost is blank
-  pub missed : t ≡ q.w → (left right : List ℕ) → Blank ≡ cost_at q left right x y k
+  -- and where there is none the raw cost is blank
+  pub missed : None ≡ target_of q x y k → (left right : List ℕ) → Blank ≡ cost_at q left right x y k
   unfolding raw_cost
   missed none left right =
-      blank-unless q.w q.h q.r left right (shift_at q k) x y
+      blank-unless q.frame.w q.frame.h q.frame.r left right (shift_at q k) x y
       (λ i x' f.
-      let is : x' ≡ q.w =
-      sym (in-found q.w q.r (pos x +ℤ shift_at q k) x' f)
-      ∙ on-frame q x y k (rw (says-within q.w q.r x i.left i.right, says-within q.h q.r y i.top i.bottom))
-      ∙ sym e
-      ∙ none in
-      omega (arith, f.right))
+      no-column x'
+      (none
+      ∙ sym (on-frame q x y k (rw (says-within q.frame.w q.frame.r x i.left i.right, says-within q.frame.h q.frame.r y i.top i.bottom)))
+      ∙ in-found q.frame.w q.frame.r (pos x +ℤ shift_at q k) x' f))
 
 -- the raw cost is that of the two windows
-pub aimed-cost : {q : Check} {x y k t : ℕ} → Aimed q x y k t → (left right : List ℕ) → pair_cost q.w q.r left right (shift_at q k) x t y ≡ cost_at q left right x y k
+pub aimed-cost : {q : Check} {x y k t : ℕ} → Aimed q x y k t → (left right : List ℕ) → pair_cost q.frame.w q.frame.r left right (shift_at q k) x t y ≡ cost_at q left right x y k
 unfolding raw_cost
 aimed-cost {q} {x} {y} {k} {t} a left right =
-    target_found q.w q.h q.r left right (shift_at q k) x y a.first t
+    target_found q.frame.w q.frame.h q.frame.r left right (shift_at q k) x y a.first t
     (record { column = a.apart; left = a.second.left; right = a.second.right })
 
 -- ---- what the functions ask that work the raw cost out
-module _ {q : Check} {x y k t : ℕ} (a : Aimed q x y k t) {room left right : List ℕ} where
-  -- the products themselves
-  pub aimed-windows : Tabled room q left right → TwoWindows left right q.w q.h q.r x t y
-  aimed-windows z = record {
-    frame = z.sized.frame;
-    a-bytes = z.tables.first.bytes;
-    b-bytes = z.tables.second.bytes;
-    first = a.first;
-    second = a.second;
-  }
+-- the room's first cells are the two pictures' tables
+pub standing : {q : Check} {room left right : List ℕ} → Tabled room q left right → TablesOf room q.frame.w q.frame.h q.frame.r left right
+standing {q} {room} t = record {
+  rest = drop (4 * cells q.frame.w q.frame.h) room;
+  frame = t.sized.frame;
+  first = t.first;
+  second = t.second;
+  is = sym (take-append-drop (4 * cells q.frame.w q.frame.h) room) ∙ ap (λ l. l ++ drop (4 * cells q.frame.w q.frame.h) room) t.held;
+}
 
+module _ {q : Check} {x y k t : ℕ} (a : Aimed q x y k t) {room left right : List ℕ} where
   -- the cost from their sum
-  pub aimed-summed : Tabled room q left right → (products : ℕ) → products ≡ window_sum (cross_at q.w left right (shift_at q k)) x y q.r → WindowsSummed room q.w q.h q.r x t y products
+  pub aimed-summed : Tabled room q left right → (products : ℕ) → products ≡ window_sum (cross_at q.frame.w left right (shift_at q k)) x y q.frame.r → WindowsSummed room q.frame.w q.frame.h q.frame.r x t y products
   aimed-summed z products e = record {
     s = shift_at q k;
     a = left;
     b = right;
-    held = z.tables;
+    held = standing z;
     first = a.first;
     second = a.second;
     apart = a.apart;
@@ -194,12 +188,12 @@ module _ {q : Check} {x y k t : ℕ} (a : Aimed q x y k t) {room left right : Li
   }
 
 -- the cost from the products' table
-pub aimed-pair : {q : Check} {x y k t : ℕ} {room : List ℕ} → Aimed q x y k t → RoomReady room q.w q.h q.r (shift_at q k) → Pair room q.w q.h q.r x t y
-aimed-pair {q} {k = k} a z = record {
+pub aimed-pair : {q : Check} {x y k t : ℕ} {room left right : List ℕ} → Aimed q x y k t → RoomOf room q.frame.w q.frame.h q.frame.r (shift_at q k) left right → Pair room q.frame.w q.frame.h q.frame.r x t y
+aimed-pair {q} {k = k} {left = left} {right = right} a held = record {
   s = shift_at q k;
-  a = z.a;
-  b = z.b;
-  held = z.held;
+  a = left;
+  b = right;
+  held = held;
   first = a.first;
   second = a.second;
   apart = a.apart;

@@ -20,4 +20,4 @@ pub record Choice (q : Check) (left right : List ℕ) (x y : ℕ) (v : Float) : 
 
 -- the cell of pixel p, where it is valid, is such a disparity
 abbrev pub Good : Check → List ℕ → List ℕ → List Float → ℕ → Type 0
-Good q left right map p = finite (get_or map p nan) ≡ true → Choice q left right (p % q.w) (p / q.w) (get_or map p nan)
+Good q left right map p = finite (get_or map p nan) ≡ true → Choice q left right (p % q.frame.w) (p / q.frame.w) (get_or map p nan)

@@ -1,5 +1,6 @@
 -- How the cells are tested: each against one raw cost at a time. Definitions only.
-use Rattle.std.specs.Prelude.{ℕ, ◌/◌, ◌%◌, Bool, true, false, cond, not, ◌||◌, List, ltb, ℤ, pos, negsuc, ◌+ℤ◌, get_or, Float}
+use Rattle.std.specs.Prelude.{ℕ, ◌/◌, ◌%◌, Bool, true, false, cond, not, ◌||◌, List, Option, Some, None, ltb, ℤ, pos, negsuc, ◌+ℤ◌, get_or, Float}
+use Rattle.std.specs.Bool.{then_some}
 use Rattle.std.specs.Float.{nan}
 use Rattle.std.specs.Float.Ieee.{eq, lt, le}
 use Rattle.std.specs.Float.Ieee.Scale.{finite}
@@ -20,23 +21,31 @@ use Rattle.vendor.specs.Verdict.{cost_at}
 abbrev pub shift_at : Check → ℕ → ℤ
 shift_at q k = shift_of Left q.search.first k
 
--- a column where a window lies within a row of w pixels, and w where it does not
-unfoldable pub column_in : ℕ → ℕ → ℤ → ℕ
-column_in w r (negsuc _) = w
-column_in w r (pos x) = cond (within w r x) x w
+-- a column, if a window lies there within a row of w pixels
+unfoldable pub column_in : ℕ → ℕ → ℤ → Option ℕ
+column_in w r (negsuc _) = None
+column_in w r (pos x) = then_some (within w r x) x
 
--- the target column of (x, y) with index k, and w where a window leaves the picture
-unfoldable pub target_of : Check → ℕ → ℕ → ℕ → ℕ
-target_of q x y k = cond (is_in_frame q.w q.h q.r x y) (column_in q.w q.r (pos x +ℤ shift_at q k)) q.w
+-- the target column of (x, y) with index k, if both windows lie within their pictures
+unfoldable pub target_of : Check → ℕ → ℕ → ℕ → Option ℕ
+target_of q x y k = cond (is_in_frame q.frame.w q.frame.h q.frame.r x y) (column_in q.frame.w q.frame.r (pos x +ℤ shift_at q k)) None
 
--- the index of the disparity that a number is, and the count where it is none of the searched range
-unfoldable pub index_named : Search → Float → ℕ
-index_named search v = first_not search.count (λ k. not (eq v (disparity search k)))
+-- an index, if it is one of n
+abbrev pub index_below : ℕ → ℕ → Option ℕ
+index_below n i = then_some (ltb i n) i
+
+-- the index of the disparity that a number is, if it is one of the searched range
+unfoldable pub index_named : Search → Float → Option ℕ
+index_named search v = index_below search.count (first_not search.count (λ k. not (eq v (disparity search k))))
+
+-- the raw cost with an index, and blank where there is none
+abbrev pub cost_if : Check → List ℕ → List ℕ → ℕ → ℕ → Option ℕ → RawCost
+cost_if q left right x y None = Blank
+cost_if q left right x y (Some k) = cost_at q left right x y k
 
 -- the raw cost of the disparity that a number is, and blank where it is none
 unfoldable pub own_cost : Check → List ℕ → List ℕ → ℕ → ℕ → Float → RawCost
-own_cost q left right x y v =
-    cond (ltb (index_named q.search v) q.search.count) (cost_at q left right x y (index_named q.search v)) Blank
+own_cost q left right x y v = cost_if q left right x y (index_named q.search v)
 
 -- not blank, and not below a number
 abbrev pub is_fit : Float → RawCost → Bool
@@ -55,4 +64,4 @@ holds q left right x y (Unbeaten k) v = is_unbeaten q.least (own_cost q left rig
 
 -- what pixel p of a map is asked; one that is not valid passes
 unfoldable pub holds_at : Check → List ℕ → List ℕ → Question → List Float → ℕ → Bool
-holds_at q left right question map p = not (finite (get_or map p nan)) || holds q left right (p % q.w) (p / q.w) question (get_or map p nan)
+holds_at q left right question map p = not (finite (get_or map p nan)) || holds q left right (p % q.frame.w) (p / q.frame.w) question (get_or map p nan)

@@ -17,11 +17,11 @@ use Rattle.vendor.specs.declared.Verdict.TheVariants.{Yes, No}
 
 -- what w by h pictures are checked by: half of the block's side, what is searched, and the least correlation; of the options no more is looked at
 abbrev pub check_of : ℕ → ℕ → BlockMatchOptions → Check
-check_of w h o = record { w = w; h = h; r = half o; search = search_of o; least = o.min_correlation }
+check_of w h o = record { frame = record { w = w; h = h; r = half o }; search = search_of o; least = o.min_correlation }
 
 -- the raw cost at (x, y) with index k, the left picture being the reference
 abbrev pub cost_at : Check → List ℕ → List ℕ → ℕ → ℕ → ℕ → RawCost
-cost_at q left right x y k = raw_cost Left q.w q.h q.r q.search.first left right x y k
+cost_at q left right x y k = raw_cost Left q.frame.w q.frame.h q.frame.r q.search.first left right x y k
 
 -- a raw cost beats c: it is not blank, and c is below it
 abbrev pub beats : RawCost → Float → Bool
@@ -41,13 +41,13 @@ is_choice q left right x y v =
 
 -- pixel p of the map passes: its cell is not valid, or it is such a disparity
 unfoldable pub passes : Check → List ℕ → List ℕ → List Float → ℕ → Bool
-passes q left right map p = not (finite (get_or map p nan)) || is_choice q left right (p % q.w) (p / q.w) (get_or map p nan)
+passes q left right map p = not (finite (get_or map p nan)) || is_choice q left right (p % q.frame.w) (p / q.frame.w) (get_or map p nan)
 
 -- the first pixel by rows that does not pass
 abbrev pub first_bad : Check → List ℕ → List ℕ → List Float → ℕ
-first_bad q left right map = first_not (q.w * q.h) (passes q left right map)
+first_bad q left right map = first_not (q.frame.w * q.frame.h) (passes q left right map)
 
 -- THE VERDICT: yes where every pixel passes, else no with column and row of the first that does not
 unfoldable pub verdict_of : Check → List ℕ → List ℕ → List Float → Verdict
 verdict_of q left right map =
-    cond (all_below (q.w * q.h) (passes q left right map)) Yes (No (first_bad q left right map % q.w) (first_bad q left right map / q.w))
+    cond (all_below (q.frame.w * q.frame.h) (passes q left right map)) Yes (No (first_bad q left right map % q.frame.w) (first_bad q left right map / q.frame.w))

@@ -1,7 +1,7 @@
 -- A point in the rectangle falls in one cell, and one outside in none; how high a point can lie. Assumes nothing.
 use Prim.Native.Nat.{ℕ, suc, ◌+◌, ◌*◌, ◌/◌, ◌%◌, ◌≤◌, ◌<◌}
 use mathlib.Core.Path.{◌≡◌, refl, sym, ap₂, ◌∙◌}
-use mathlib.Core.Bool.{Bool, true, false, ◌&&◌, and-false}
+use mathlib.Core.Bool.{Bool, true, false, cond, ◌&&◌, and-false}
 use mathlib.Core.Logic.{◌⊎◌, inl, inr}
 use native.Mathlib.Nat.{le_trans, div-le_self, mod-lt, div-add-mod', le-div_iff_mul-le, div-lt_iff_lt-mul}
 use native.Mathlib.Omega.{arith}
@@ -9,6 +9,7 @@ use borrow.Author.Tests.{ltb-true, ltb-false, leb-true, lt-ltb, le-ltb, le-leb, 
 use lib.Dec.{leb, ltb, eqb}
 use lib.IntN.{ℤ}
 use lib.Signed.{le_z, lt_z}
+use Rattle.std.specs.Prelude.{Some, None}
 use Rattle.lists.proofs.Tests.{and_both, lt-or-le}
 use Rattle.lists.proofs.Rows.{in-column, in-row, pixel-in, mul-pos-left, row_below}
 use Rattle.volume.specs.declared.site.Site.{Site}
@@ -67,6 +68,11 @@ pub cell-some : (s : Site) → good_cell s ≡ true → 0 < s.cell
 unfolding good_cell
 cell-some s e = omega (arith, leb-true 10 s.cell (and_both (leb 10 s.cell) (leb s.cell 10000) e).0)
 
+-- and at most 10,000 mm
+pub cell-most : (s : Site) → good_cell s ≡ true → s.cell ≤ 10000
+unfolding good_cell
+cell-most s e = leb-true s.cell 10000 (and_both (leb 10 s.cell) (leb s.cell 10000) e).1
+
 -- the part of length k in which n lies
 part_of : (k i n : ℕ) → 0 < k → leb (i * k) n && ltb n (suc i * k) ≡ eqb i (n / k)
 part_of k i n some = go (lt-or-le i (n / k)) (lt-or-le (n / k) i)
@@ -103,6 +109,15 @@ place w x y c l = go (eqb c (y * w + x)) refl
             absurd (eqb-false c (y * w + x) e (sym (div-add-mod' c w) ∙ ap₂ (λ q r. q * w + r) (eqb-true (c / w) y g) (eqb-true (c % w) x f)))
         apart true false f g = refl
         apart false b f g = refl
+
+-- the part in which a number lies, if one, is the part that is named
+pub part-none : (t : Bool) (n : ℕ) → cond t (Some n) None ≡ None → t ≡ false
+part-none true n e = cc
+part-none false n e = refl
+
+pub part-some : (t : Bool) (n m : ℕ) → cond t (Some n) None ≡ Some m → (t ≡ true) × (m ≡ n)
+part-some true n m e = (refl, cc)
+part-some false n m e = cc
 
 -- ---- one direction, from a low edge to a high one
 module _ (s : Site) (some : 0 < s.cell) (low high v : ℤ) where

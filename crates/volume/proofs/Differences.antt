@@ -4,16 +4,16 @@ use mathlib.Core.Path.{◌≡◌, refl, sym, ap, ap₂, ◌∙◌}
 use mathlib.Core.Bool.{Bool, true, false, not, ◌&&◌, true≢false}
 use native.Mathlib.Nat.{le_refl, le_trans}
 use native.Mathlib.Omega.{arith}
-use borrow.Author.Tests.{ltb-true, ltb-false, leb-true, le-ltb, le-leb, lt-leb}
+use borrow.Author.Tests.{ltb-true, ltb-false, leb-true, lt-ltb, le-ltb, le-leb, lt-leb}
 use lib.Dec.{leb, ltb, leb-zero, leb-suc-zero, leb-suc-suc}
 use lib.IntN.{ℤ, pos, negsuc, nat_abs, neg_ℤ, suc_ℤ, ◌+ℤ◌, ◌-ℤ◌, +ℤ_comm, +ℤ_idl, +ℤ_idr, suc_ℤ-+ℤ, -ℤ-+ℤ_cancel}
 use lib.Signed.{le_z, lt_z}
+use Rattle.std.specs.Int.{int_max}
 use mir.Syntax.{w64}
 use mir.Val.{SFits, to_z, of_z}
 use mir.ValLaws.{to_z-of_z}
 use Rattle.lists.proofs.Tests.{and_both}
 use Rattle.lists.proofs.Sizes.{abs_neg, sum-size, small-fits}
-use Rattle.volume.specs.Metres.{size_most, is_near}
 use Rattle.volume.specs.Rectangle.{or_zero, above}
 use Rattle.volume.specs.Heights.{is_between}
 use Rattle.volume.specs.Inner.{Near}
@@ -68,24 +68,16 @@ from low v = +ℤ_comm low (v -ℤ low) ∙ -ℤ-+ℤ_cancel v low
 difference_low : (low v : ℤ) → le_z low v ≡ le_z (pos 0) (v -ℤ low)
 difference_low low v = sym (ap₂ le_z (+ℤ_idr low) (from low v)) ∙ moved low (pos 0) (v -ℤ low)
 
-difference-most : (a b : ℤ) → le_z a b ≡ le_z (a -ℤ b) (pos 0)
-difference-most a b = sym (ap₂ le_z (from b a) (+ℤ_idr b)) ∙ moved b (a -ℤ b) (pos 0)
+-- the larger of a number and 0
+larger-zero : (d : ℤ) → int_max d (pos 0) ≡ pos (or_zero d)
+larger-zero (pos zero) = refl
+larger-zero (pos (suc n)) = rw (lt-ltb 0 (suc n) (omega arith))
+larger-zero (negsuc n) = refl
 
-none : (d : ℤ) → le_z d (pos 0) ≡ true → or_zero d ≡ 0
-none (pos n) e = omega (arith, leb-true n 0 e)
-none (negsuc n) e = refl
-
-pub above-none : (a b : ℤ) → le_z a b ≡ true → above a b ≡ 0
+-- a difference is how far the one lies above the other, where it is larger than 0
+pub above-larger : (a b : ℤ) → int_max (a -ℤ b) (pos 0) ≡ pos (above a b)
 unfolding above
-above-none a b e = none (a -ℤ b) (sym (difference-most a b) ∙ e)
-
-some : (d : ℤ) → le_z d (pos 0) ≡ false → d ≡ pos (or_zero d)
-some (pos n) e = refl
-some (negsuc n) e = absurd (true≢false e)
-
-pub above-some : (a b : ℤ) → le_z a b ≡ false → a -ℤ b ≡ pos (above a b)
-unfolding above
-above-some a b e = some (a -ℤ b) (sym (difference-most a b) ∙ e)
+above-larger a b = larger-zero (a -ℤ b)
 
 -- ---- sizes
 
@@ -102,14 +94,9 @@ above-size a b = le_trans (or-zero-most (a -ℤ b)) (omega (arith, sum-size a (n
 pub near_fits : (v : ℤ) → Near v → SFits w64 v
 near_fits v l = small-fits v (omega arith)
 
--- the test by two comparisons
-pub near-not : (v : ℤ) → lt_z v (negsuc 99999) ≡ true → is_near v ≡ false
-near-not (pos n) e = absurd (true≢false (sym e))
-near-not (negsuc n) e = lt-leb (suc n) size_most (omega (arith, ltb-true 99999 n e))
-
-pub near-is : (v : ℤ) → lt_z v (negsuc 99999) ≡ false → le_z v (pos size_most) ≡ is_near v
-near-is (pos n) e = refl
-near-is (negsuc n) e = sym (le-leb (suc n) size_most (omega (arith, ltb-false 99999 n e)))
+-- and so does their difference
+pub difference-fits : (a b : ℤ) → Near a → Near b → SFits w64 (a -ℤ b)
+difference-fits a b l m = small-fits (a -ℤ b) (omega (arith, sum-size a (neg_ℤ b), abs_neg b))
 
 near-inside : (low high v : ℤ) → Near low → Near high → le_z low v ≡ true → lt_z v high ≡ true → Near v
 near-inside low (pos h) (pos n) l m e f = omega (arith, ltb-true n h f)

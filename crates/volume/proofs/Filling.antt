@@ -12,13 +12,12 @@ use lib.ListN.{length, get_or, set, drop, replicate, length-set, length-replicat
 use lib.Seq.{get_or-set_same, get_or-set_other, ext_get_or}
 use Rattle.lists.proofs.Lists.{list_of-length, list_of-at}
 use Rattle.volume.specs.declared.site.Site.{Site}
-use Rattle.volume.specs.declared.site.Fall.{Fall}
-use Rattle.volume.specs.declared.site.Fall.TheVariants as fall
+use Rattle.std.specs.Prelude.{Option, Some, None}
 use Rattle.volume.specs.declared.metres.Spot.{Spot}
 use Rattle.volume.specs.Rectangle.{good_cell, good_sides, cells_of}
 use Rattle.volume.specs.Heights.{is_inside, falls_in, height_of, height_at, is_empty, inside_count}
-use Rattle.volume.specs.Inner.{cell_at, fall_of, level_of_cell, levels_of, raised_at}
-use Rattle.volume.proofs.Cells.{falls-inside, falls-outside}
+use Rattle.volume.specs.Inner.{SiteFits, cell_at, fall_of, level_of_cell, levels_of, raised_at}
+use Rattle.volume.proofs.Cells.{cell_below, falls-inside, falls-outside}
 use Rattle.volume.proofs.Greatest.{empty-zero}
 
 -- the grid after one point fell, and after all of them
@@ -30,25 +29,31 @@ fallen s [] grid = grid
 fallen s (p ∷ ps) grid = fallen s ps (dropped s p grid)
 
 -- a point that falls in a cell lies inside, and one that falls in none outside
-pub falls-cell : (s : Site) (p : Spot) (c : ℕ) → fall_of s p ≡ fall.Cell c → (is_inside s p ≡ true) × (c ≡ cell_at s p)
+pub falls-cell : (s : Site) (p : Spot) (c : ℕ) → fall_of s p ≡ Some c → (is_inside s p ≡ true) × (c ≡ cell_at s p)
 unfolding fall_of
 falls-cell s p c e = go (is_inside s p) refl
   where
     go : (t : Bool) → is_inside s p ≡ t → (is_inside s p ≡ true) × (c ≡ cell_at s p)
-    go true t = (t, let f : fall.Cell (cell_at s p) ≡ fall.Cell c = rw t at e in cc)
-    go false t = let f : fall.Outside ≡ fall.Cell c = rw t at e in let z : ◌≡◌ {A = ℕ} 0 1 = cc in absurd (omega arith)
+    go true t = (t, let f : Some (cell_at s p) ≡ Some c = rw t at e in cc)
+    go false t = let f : None ≡ Some c = rw t at e in let z : ◌≡◌ {A = ℕ} 0 1 = cc in absurd (omega arith)
 
-pub falls-none : (s : Site) (p : Spot) → fall_of s p ≡ fall.Outside → is_inside s p ≡ false
+pub falls-none : (s : Site) (p : Spot) → fall_of s p ≡ None → is_inside s p ≡ false
 unfolding fall_of
 falls-none s p e = go (is_inside s p) refl
   where
     go : (t : Bool) → is_inside s p ≡ t → is_inside s p ≡ false
-    go true t = let f : fall.Cell (cell_at s p) ≡ fall.Outside = rw t at e in let z : ◌≡◌ {A = ℕ} 0 1 = cc in absurd (omega arith)
+    go true t = let f : Some (cell_at s p) ≡ None = rw t at e in let z : ◌≡◌ {A = ℕ} 0 1 = cc in absurd (omega arith)
     go false t = t
 
-raised-length : (f : Fall) (h : ℕ) (grid : List ℕ) → length (raised_at f h grid) ≡ length grid
-raised-length (fall.Cell c) h grid = length-set grid c _
-raised-length fall.Outside h grid = refl
+-- its cell is one of the grid's
+pub falls-below : (s : Site) → SiteFits s → (p : Spot) (c : ℕ) → fall_of s p ≡ Some c → c < cells_of s
+falls-below s fit p c e =
+    let here = falls-cell s p c e in
+    omega (arith, here.1, cell_below s fit.cell fit.sides p here.0)
+
+raised-length : (f : Option ℕ) (h : ℕ) (grid : List ℕ) → length (raised_at f h grid) ≡ length grid
+raised-length (Some c) h grid = length-set grid c _
+raised-length None h grid = refl
 
 fallen-length : (s : Site) (ps : List Spot) (grid : List ℕ) → length (fallen s ps grid) ≡ length grid
 unfolding fallen

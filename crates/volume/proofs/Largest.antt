@@ -54,7 +54,7 @@ module _ (s : Site) (near : near_site s ≡ true) where
       (above_most s.right s.left n.right n.left, above_most s.bottom s.top n.bottom n.top)
 
 -- THEOREM: no heap of good points over a fit site is larger than 8·10^15 cubic millimetres
-pub volume-most : (s : Site) {columns : ℕ} → SiteFits s columns → (xs ys zs : List Float) → good_points xs ys zs ≡ true → volume_of s (spots_of xs ys zs) ≤ volume_most
+pub volume-most : (s : Site) → SiteFits s → (xs ys zs : List Float) → good_points xs ys zs ≡ true → volume_of s (spots_of xs ys zs) ≤ volume_most
 unfolding volume_of
 volume-most s fit xs ys zs e =
     let cellArea = s.cell * s.cell in

@@ -10,7 +10,7 @@ use Rattle.refusals.specs.Outcome.{answer_for}
 use Rattle.volume.specs.declared.site.Site.{Site}
 use Rattle.volume.specs.declared.metres.Spot.{Spot}
 use Rattle.volume.specs.declared.heap.Figures.{Figures}
-use Rattle.volume.specs.declared.heap.Heap.TheVariants as heap
+use Rattle.refusals.specs.Steps.{is}
 use Rattle.volume.specs.Metres.{spots_of}
 use Rattle.volume.specs.Heights.{figures_of}
 use Rattle.volume.specs.Outcome.{heap_rows, heap_of}
@@ -24,11 +24,11 @@ pub record MeasuredHeap (s : Site) (xs ys zs : List Float) (m : ℕ) (f : Figure
   pub figures : f ≡ figures_of s (spots_of xs ys zs)
 
 -- THEOREM: where figures are answered, nothing was to be refused
-pub measured : (s : Site) (xs ys zs : List Float) (m : ℕ) (f : Figures) → heap_of s xs ys zs m ≡ heap.Measured f → MeasuredHeap s xs ys zs m f
+pub measured : (s : Site) (xs ys zs : List Float) (m : ℕ) (f : Figures) → heap_of s xs ys zs m ≡ is f → MeasuredHeap s xs ys zs m f
 unfolding heap_of
 measured s xs ys zs m f = go (first_of (heap_rows s xs ys zs m)) refl
   where
-    go : (n : ℕ) → first_of (heap_rows s xs ys zs m) ≡ n → answer_for n heap.Refused (heap.Measured (figures_of s (spots_of xs ys zs))) ≡ heap.Measured f → MeasuredHeap s xs ys zs m f
+    go : (n : ℕ) → first_of (heap_rows s xs ys zs m) ≡ n → answer_for n (figures_of s (spots_of xs ys zs)) ≡ is f → MeasuredHeap s xs ys zs m f
     go zero none e = record { passed = heap-fits s xs ys zs m none; figures = cc }
     go (suc n) some e = let z : ◌≡◌ {A = ℕ} 0 1 = cc in absurd (omega arith)
 
@@ -47,4 +47,4 @@ module _ {s : Site} {xs ys zs : List Float} {m : ℕ} {f : Figures} (h : Measure
 pub more-points : {s : Site} {xs ys zs xs' ys' zs' : List Float} {m m' : ℕ} {f f' : Figures} → MeasuredHeap s xs ys zs m f → MeasuredHeap s xs' ys' zs' m' f'
     → (before after : List Spot) (p : Spot) → spots_of xs ys zs ≡ before ++ after → spots_of xs' ys' zs' ≡ before ++ p ∷ after → f.volume ≤ f'.volume
 unfolding figures_of
-more-points {s = s} h h' before after p is is' = rw (h.figures, h'.figures, is, is') (volume-never-lower s before after p)
+more-points {s = s} h h' before after p made made' = rw (h.figures, h'.figures, made, made') (volume-never-lower s before after p)

@@ -13,7 +13,6 @@ use Rattle.refusals.specs.Answered.{first_of}
 use Rattle.refusals.specs.Outcome.{answer_for, after}
 use Rattle.volume.specs.declared.site.Site.{Site}
 use Rattle.volume.specs.declared.metres.Spot.{Spot}
-use Rattle.volume.specs.declared.heap.Heap.TheVariants as heap
 use Rattle.volume.specs.Metres.{good_points, spots_of}
 use Rattle.volume.specs.Rectangle.{cells_of}
 use Rattle.volume.specs.Heights.{is_inside, falls_in, height_of, height_at, is_empty, inside_count, outside_count, grid_of, empty_count, volume_of, figures_of}
@@ -110,7 +109,7 @@ module _ (s : Site) (xs ys zs xs' ys' zs' : List Float) (good : good_points xs y
 
   pub answer-same : (m : ℕ) → heap_of s xs ys zs m ≡ heap_of s xs' ys' zs' m
   unfolding heap_of
-  answer-same m = ap₂ (λ rows f. answer_for (first_of rows) heap.Refused (heap.Measured f)) (rows_same m) (figures-same s r)
+  answer-same m = ap₂ (λ rows f. answer_for (first_of rows) f) (rows_same m) (figures-same s r)
 
   pub grid-after-same : (grid : List ℕ) → grid_after s xs ys zs grid ≡ grid_after s xs' ys' zs' grid
   unfolding grid_after

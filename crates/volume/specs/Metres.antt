@@ -5,6 +5,7 @@ use Rattle.std.specs.Float.Ieee.{mul, to_signed}
 use Rattle.std.specs.Float.Ieee.Scale.{finite}
 use Rattle.numbers.specs.Away.{rounded_away}
 use Rattle.volume.specs.declared.metres.Spot.{Spot}
+use Rattle.volume.specs.declared.metres.Points.{Points}
 
 -- 1000 as an f64
 abbrev pub thousand : Float
@@ -45,3 +46,11 @@ spots_of (x ∷ xs) (y ∷ ys) (z ∷ zs) = spot_of x y z ∷ spots_of xs ys zs
 spots_of (x ∷ xs) (y ∷ ys) [] = []
 spots_of (x ∷ xs) [] zs = []
 spots_of [] ys zs = []
+
+-- the same of lists that are held together
+abbrev pub are_good : Points → Bool
+are_good p = good_points p.xs.now p.ys.now p.zs.now
+
+-- and their points
+abbrev pub spots_in : Points → List Spot
+spots_in p = spots_of p.xs.now p.ys.now p.zs.now

@@ -1,6 +1,7 @@
 -- The rectangle, its cells, and the tests of a site (docs/SPECIFICATION.md, "Volume of a heap"). Definitions only.
 use Rattle.std.specs.Prelude.{ℕ, ◌*◌, ◌/◌, ◌%◌, Bool, ◌&&◌, leb, ltb, eqb, ℤ, pos, negsuc, ◌-ℤ◌}
 use Rattle.volume.specs.declared.site.Site.{Site}
+use Rattle.volume.specs.declared.site.Shape.{Shape}
 use Rattle.volume.specs.Metres.{is_near}
 
 -- a whole number, and 0 in place of one below zero
@@ -19,12 +20,15 @@ wide_of s = above s.right s.left
 abbrev pub long_of : Site → ℕ
 long_of s = above s.bottom s.top
 
--- the cells of a row, the rows, and all cells
+-- the cells of a row, the rows, both, and all cells
 abbrev pub columns_of : Site → ℕ
 columns_of s = wide_of s / s.cell
 
 abbrev pub rows_of : Site → ℕ
 rows_of s = long_of s / s.cell
+
+abbrev pub shape_of : Site → Shape
+shape_of s = record { columns = columns_of s; rows = rows_of s }
 
 abbrev pub cells_of : Site → ℕ
 cells_of s = columns_of s * rows_of s

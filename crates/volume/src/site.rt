@@ -1,16 +1,17 @@
-// The rectangle, its cells, and where in it a point falls.
-ghost use Rattle.std.specs.Prelude.{◌≡◌, true, ◌<◌};
+// The rectangle and its cells, the tests of a site, and where in it a point falls.
+ghost use Rattle.std.specs.Prelude.{◌≡◌, true, ◌*◌, IfOk};
 ghost use Rattle.refusals.specs.Answered.{first_of};
+ghost use Rattle.refusals.specs.Given.{number_in};
 ghost use Rattle.volume.specs.Metres.{is_near};
-ghost use Rattle.volume.specs.Rectangle.{above, multiple, near_site, good_cell, good_sides, wide_of, long_of, columns_of, rows_of, cells_of};
-ghost use Rattle.volume.specs.Heights.{is_between, height_of};
+ghost use Rattle.volume.specs.Rectangle.{near_site, good_cell, cells_of, shape_of};
+ghost use Rattle.volume.specs.Heights.{height_of};
 ghost use Rattle.volume.specs.Outcome.{site_rows};
-ghost use Rattle.volume.specs.Inner.{Near, fall_of};
+ghost use Rattle.volume.specs.Inner.{SiteFits, fall_of};
 
 use crate::metres::Spot;
+use crate::side::{Side, above_by, is_near};
+use refusals::Refusal;
 
-// The largest size of a coordinate, an edge or the floor depth, in millimetres.
-const SIZE_MOST: i64 = 100000;
 // The most cells.
 const CELLS_MOST: usize = 65536;
 
@@ -26,186 +27,129 @@ pub struct Site {
     pub floor: i64,
 }
 
-// How many cells a row has and how many rows there are, or the refusal.
-#[derive(Drop)]
-pub enum Shape {
-    Grid(usize, usize),
-    Refused(u8),
+// How many cells a row has, and how many rows there are.
+#[derive(Clone, Copy)]
+pub struct Shape {
+    pub columns: usize,
+    pub rows: usize,
 }
 
-// The number of the cell that a point falls in, if one.
-#[derive(Drop)]
-pub enum Fall {
-    Cell(usize),
-    Outside,
+// A site that no test refuses, with its grid's shape.
+#[derive(Clone, Copy)]
+pub struct Plan {
+    pub site: Site,
+    pub shape: Shape,
+    pub ghost fits: { SiteFits site },
+    pub ghost shaped: { shape ≡ shape_of site },
 }
 
-// Whether a number of millimetres is at most 100,000 in size.
-fn is_near(v: i64) -> bool
-    ensures { result ≡ is_near v }
+impl Site {
+    // Whether the edges and the floor depth are near.
+    fn is_near(self) -> bool
+        ensures { result ≡ near_site self }
+    {
+        is_near(self.left)
+            && is_near(self.right)
+            && is_near(self.top)
+            && is_near(self.bottom)
+            && is_near(self.floor)
+    }
+
+    // Whether the cell side is from 10 to 10,000 mm.
+    #[tactic(auto, unfolding(crate::specs::Rectangle::good_cell))]
+    fn has_good_cell(self) -> bool
+        ensures { result ≡ good_cell self }
+    {
+        10 <= self.cell && self.cell <= 10000
+    }
+
+    // The rectangle from left to right. This and the next function differ in the edges that they read, and in nothing else.
+    fn across(self) -> Side
+        requires near { near_site self ≡ true }
+        requires cell { good_cell self ≡ true }
+        ensures low { result.low ≡ self.left }
+        ensures high { result.high ≡ self.right }
+        ensures cell { result.cell ≡ self.cell }
+    {
+        Side {
+            low: self.left,
+            high: self.right,
+            cell: self.cell,
+        }
+    }
+
+    // The rectangle from its top down.
+    fn down(self) -> Side
+        requires near { near_site self ≡ true }
+        requires cell { good_cell self ≡ true }
+        ensures low { result.low ≡ self.top }
+        ensures high { result.high ≡ self.bottom }
+        ensures cell { result.cell ≡ self.cell }
+    {
+        Side {
+            low: self.top,
+            high: self.bottom,
+            cell: self.cell,
+        }
+    }
+}
+
+// A site's plan, or its refusal; `good` says whether the points are good, which are refused after the cell and before the sides.
+#[tactic(auto, unfolding(refusals::specs::Answered::first_of))]
+pub fn check_site(good: bool, site: Site) -> Result<Plan, Refusal>
+    ensures number { number_in result ≡ first_of (site_rows good site) }
+    ensures plan { IfOk result (λ plan. plan.site ≡ site) }
 {
-    if v < -SIZE_MOST {
-        return false;
+    if !site.has_good_cell() {
+        return Err(Refusal::CellSide);
     }
-    v <= SIZE_MOST
+    if !good || !site.is_near() {
+        return Err(Refusal::DistanceOutOfRange);
+    }
+    let across = site.across();
+    let down = site.down();
+    if !across.is_whole() || !down.is_whole() {
+        return Err(Refusal::RectangleSides);
+    }
+    let shape = Shape {
+        columns: across.cells(),
+        rows: down.cells(),
+    };
+    if CELLS_MOST < shape.columns * shape.rows {
+        return Err(Refusal::TooManyCells);
+    }
+    Ok(Plan { site, shape })
 }
 
-// How far a lies above b.
-fn above_by(a: i64, b: i64) -> usize
-    requires { Near a × Near b }
-    ensures { result ≡ above a b }
-{
-    if a <= b {
-        return 0;
+impl Plan {
+    // How many cells the grid has.
+    pub fn cells(self) -> usize
+        ensures { result ≡ cells_of self.site }
+    {
+        self.shape.columns * self.shape.rows
     }
-    (a - b) as usize
-}
 
-// Whether v lies from low on and below high.
-fn is_between(low: i64, high: i64, v: i64) -> bool
-    ensures { result ≡ is_between low high v }
-{
-    if v < low {
-        return false;
+    // The area of a cell, in square millimetres.
+    pub fn cell_area(self) -> u64
+        ensures { result ≡ self.site.cell * self.site.cell }
+    {
+        (self.site.cell * self.site.cell) as u64
     }
-    v < high
-}
 
-// Whether the edges and the floor depth are near.
-fn near_site(site: Site) -> bool
-    ensures { result ≡ near_site site }
-{
-    if !is_near(site.left) {
-        return false;
+    // The number of the cell that a point falls in, if one: the cells are numbered by rows.
+    pub fn cell_at(self, at: Spot) -> Option<usize>
+        ensures { result ≡ fall_of self.site at }
+    {
+        let column = self.site.across().cell_at(at.x)?;
+        let row = self.site.down().cell_at(at.y)?;
+        Some(row * self.shape.columns + column)
     }
-    if !is_near(site.right) {
-        return false;
-    }
-    if !is_near(site.top) {
-        return false;
-    }
-    if !is_near(site.bottom) {
-        return false;
-    }
-    is_near(site.floor)
-}
 
-// Whether a side is positive and a whole multiple of the cell's.
-fn is_multiple(n: usize, side: usize) -> bool
-    requires { 0 < side }
-    ensures { result ≡ multiple n side }
-{
-    if n == 0 {
-        return false;
+    // A point's height over the floor.
+    pub fn height_of(self, at: Spot) -> u64
+        requires { is_near at.z ≡ true }
+        ensures { result ≡ height_of self.site at }
+    {
+        above_by(self.site.floor, at.z) as u64
     }
-    n % side == 0
-}
-
-// Whether the cell side is from 10 to 10,000 mm.
-fn good_cell(site: Site) -> bool
-    ensures { result ≡ good_cell site }
-{
-    if site.cell < 10 {
-        return false;
-    }
-    site.cell <= 10000
-}
-
-// The rectangle's sides.
-fn wide_of(site: Site) -> usize
-    requires { near_site site ≡ true }
-    ensures { result ≡ wide_of site }
-{
-    above_by(site.right, site.left)
-}
-
-fn long_of(site: Site) -> usize
-    requires { near_site site ≡ true }
-    ensures { result ≡ long_of site }
-{
-    above_by(site.bottom, site.top)
-}
-
-// Whether both are positive and whole multiples of the cell side.
-fn good_sides(site: Site) -> bool
-    requires site_value { good_cell site ≡ true }
-    requires site_value_2 { near_site site ≡ true }
-    ensures { result ≡ good_sides site }
-{
-    if !is_multiple(wide_of(site), site.cell) {
-        return false;
-    }
-    is_multiple(long_of(site), site.cell)
-}
-
-// The cells of a row, the rows, and all cells.
-pub fn columns_of(site: Site) -> usize
-    requires site_value { good_cell site ≡ true }
-    requires site_value_2 { near_site site ≡ true }
-    ensures { result ≡ columns_of site }
-{
-    wide_of(site) / site.cell
-}
-
-pub fn rows_of(site: Site) -> usize
-    requires site_value { good_cell site ≡ true }
-    requires site_value_2 { near_site site ≡ true }
-    ensures { result ≡ rows_of site }
-{
-    long_of(site) / site.cell
-}
-
-pub fn cells_of(site: Site) -> usize
-    requires site_value { good_cell site ≡ true }
-    requires site_value_2 { near_site site ≡ true }
-    ensures { result ≡ cells_of site }
-{
-    columns_of(site) * rows_of(site)
-}
-
-// The number of a site's refusal, 0 for none; `good` says whether the points are good.
-pub fn site_refusal(good: bool, site: Site) -> u8
-    ensures { result ≡ first_of (site_rows good site) }
-{
-    if !good_cell(site) {
-        return 51;
-    }
-    if !good {
-        return 52;
-    }
-    if !near_site(site) {
-        return 52;
-    }
-    if !good_sides(site) {
-        return 53;
-    }
-    if CELLS_MOST < cells_of(site) {
-        return 54;
-    }
-    0
-}
-
-// Where a point falls, for a site whose rows have so many cells.
-pub fn fall_of(columns: usize, site: Site, at: Spot) -> Fall
-    requires { (near_site site ≡ true) × ((good_cell site ≡ true) × (columns ≡ columns_of site)) }
-    ensures { result ≡ fall_of site at }
-{
-    if !is_between(site.left, site.right, at.x) {
-        return Fall::Outside;
-    }
-    if !is_between(site.top, site.bottom, at.y) {
-        return Fall::Outside;
-    }
-    let side = site.cell;
-    let column = above_by(at.x, site.left) / side;
-    let row = above_by(at.y, site.top) / side;
-    Fall::Cell(row * columns + column)
-}
-
-// A point's height over the floor.
-pub fn height_of(site: Site, at: Spot) -> u64
-    requires { (near_site site ≡ true) × (is_near at.z ≡ true) }
-    ensures { result ≡ height_of site at }
-{
-    above_by(site.floor, at.z) as u64
 }

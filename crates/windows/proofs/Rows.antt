@@ -1,87 +1,49 @@
--- The recurrence of a table's row, once for every kind of table: f is the row's values.
-use Prim.Native.Nat.{ℕ, suc, ◌+◌, ◌*◌, ◌^◌, ◌≤◌, ◌<◌, zero-le}
-use mathlib.Core.Path.{◌≡◌, refl, sym, ap, ◌∙◌}
-use mathlib.Core.List.{List, [], ◌∷◌, ◌++◌, append-nil, append_assoc}
-use native.Mathlib.Numerals.{add-one}
-use native.Mathlib.Nat.{add-zero, add_assoc, le_antisymm}
+-- A part of a table's row, filled from the part of the row above it. Assumes nothing.
+use Prim.Native.Nat.{ℕ, ◌+◌, ◌-◌, ◌≤◌, ◌<◌}
+use mathlib.Core.Path.{◌≡◌, refl, sym, ap, ap₂, ◌∙◌}
+use mathlib.Core.List.{List, ◌++◌}
 use native.Mathlib.Omega.{arith}
-use lib.ListN.{length, get_or, take, drop, set, length-append, length-drop, get_or-append, take-append-drop, drop_of_length-le}
-use lib.Seq.{length-take-le, get_or-take, drop-cons, set_at}
-use Rattle.lists.proofs.Lists.{list_of-length, list_of-snoc}
+use lib.ListN.{length, get_or, take, drop, set, length-drop}
+use lib.Seq.{length-take-le, get_or-take, get_or-drop}
+use Rattle.lists.proofs.Lists.{list_of-length, list_of-same, list_of-split, filled_next, filled-end}
 use Rattle.lists.specs.Lists.{list_of}
 use Rattle.lists.specs.Sums.{sum_to}
-use Rattle.windows.specs.Table.{RowReady, next_row}
-use Rattle.lists.proofs.Sums.{sum_to-bound}
+use Rattle.windows.specs.Table.{next_row}
+use Rattle.windows.specs.Parts.{sums_below}
 
--- a store of the next value: after `p` and the first n values of g, with the rest of `d`, at the place k that follows them
-pub store-next : (p d : List ℕ) (g : ℕ → ℕ) (n k v : ℕ) → length p + n ≡ k → k < length d → v ≡ g n
-    → set (p ++ list_of n g ++ drop k d) k v ≡ p ++ list_of (n + 1) g ++ drop (k + 1) d
-store-next p d g n k v at h e =
-    rw (add-one n, add-one k, list_of-snoc, drop-cons d k 0 h, set_at (p ++ list_of n g) (get_or d k 0) (drop (suc k) d) v k (rw (length-append, list_of-length) at), e)
-    (sym (ap (λ l. l ++ drop (suc k) d) (sym (append_assoc p (list_of n g) (g n ∷ []))) ∙ append_assoc (p ++ list_of n g) (g n ∷ []) (drop (suc k) d)))
+pub below-length : (f : ℕ → ℕ) (above : List ℕ) → length (sums_below f above) ≡ length above
+unfolding sums_below
+below-length f above = list_of-length (length above) (λ i. get_or above i 0 + f i)
 
--- cell x of the row below `e`'s first
-abbrev pub cell : List ℕ → (ℕ → ℕ) → ℕ → ℕ
-cell e f x = get_or e x 0 + sum_to x f
+pub below-same : (f g : ℕ → ℕ) (above : List ℕ) → ((i : ℕ) → i < length above → f i ≡ g i) → sums_below f above ≡ sums_below g above
+unfolding sums_below
+below-same f g above same = list_of-same (length above) _ _ (λ i l. ap (λ v. get_or above i 0 + v) (same i l))
 
--- the loop over a row has filled the first x cells of the second row, and `run` is the row's sum so far
-pub record RowInv (e : List ℕ) (w : ℕ) (f : ℕ → ℕ) (part : List ℕ) (run x : ℕ) : Type 0 where
-  pub within : x ≤ w
-  pub total : run ≡ sum_to x f
-  pub filled : part ≡ take (w + 1) e ++ list_of x (cell e f) ++ drop (w + 1 + x) e
+-- two parts, one after the other
+pub below_join : (k : ℕ) (f : ℕ → ℕ) (above : List ℕ) → k ≤ length above
+    → sums_below f above ≡ sums_below f (take k above) ++ sums_below (λ i. f (k + i)) (drop k above)
+unfolding sums_below
+below_join k f above l =
+    let cell : ℕ → ℕ = λ i. get_or above i 0 + f i in
+    let n = length above - k in
+    let long : length above ≡ k + n = omega arith in
+    let first : list_of k cell ≡ sums_below f (take k above) =
+    rw (length-take-le k above l) (list_of-same k _ _ (λ i h. ap (λ v. v + f i) (sym (get_or-take k above i 0 h)))) in
+    let second : list_of n (λ i. cell (k + i)) ≡ sums_below (λ i. f (k + i)) (drop k above) =
+    rw length-drop (list_of-same n _ _ (λ i h. ap (λ v. v + f (k + i)) (sym (get_or-drop k above i 0)))) in
+    ap (λ m. list_of m cell) long ∙ list_of-split k n cell ∙ ap₂ (λ p q. p ++ q) first second
 
-module _ (e : List ℕ) (w : ℕ) (f : ℕ → ℕ) (ready : RowReady w e) (small : (x : ℕ) → f x ≤ 65025) where
-  above : length (take (w + 1) e) ≡ w + 1
-  above = let h = ready.size in length-take-le (w + 1) e (omega arith)
+-- a whole row
+pub row-is : (w : ℕ) (f : ℕ → ℕ) (above : List ℕ) → length above ≡ w + 1 → next_row w f above ≡ sums_below (λ x. sum_to x f) above
+unfolding next_row sums_below
+row-is w f above e = ap (λ n. list_of n (λ x. get_or above x 0 + sum_to x f)) (sym e)
 
-  pub row-start : RowInv e w f e 0 0
-  unfolding sum_to list_of
-  row-start =
-      record {
-        within = zero-le;
-        total = refl;
-        filled = sym (rw (add-zero (w + 1), append-nil) (take-append-drop (w + 1) e));
-      }
-
-  module _ (part : List ℕ) (run x : ℕ) (i : RowInv e w f part run x) where
-    pub row-length : length part ≡ length e
-    row-length = rw i.filled (simp (length-append, list_of-length, length-drop, above) (omega arith))
-
-    row-run : run ≤ x * 65025
-    row-run = rw i.total (sum_to-bound 65025 x f (λ j _. small j))
-
-    row_read : get_or part x 0 ≡ get_or e x 0
-    row_read =
-        rw i.filled
-        (get_or-append (take (w + 1) e ++ list_of x (cell e f)) _ 0 x (simp (length-append, above) (omega arith))
-        ∙ get_or-append (take (w + 1) e) _ 0 x (rw above (omega arith))
-        ∙ get_or-take (w + 1) e x 0 (omega arith))
-
-    -- what the next store asks
-    pub row_put : (x < length part) × (w + 1 + x < length part) × (get_or part x 0 + run < 2 ^ 64)
-    row_put = rw (row-length, row_read) (omega (arith, row-run, ready.room x i.within))
-
-    -- what the running sum's next step asks
-    pub row-sum : (v : ℕ) → v ≡ f x → run + v < 2 ^ 64
-    row-sum v e = omega (arith, row-run, small x, ready.width)
-
-    row-store : set part (w + 1 + x) (get_or part x 0 + run) ≡ take (w + 1) e ++ list_of (x + 1) (cell e f) ++ drop (w + 1 + x + 1) e
-    row-store =
-        rw (row_read, i.filled)
-        (store-next (take (w + 1) e) e (cell e f) x (w + 1 + x) _ (ap (λ k. k + x) above) (omega arith) (ap (λ r. get_or e x 0 + r) i.total))
-
-    pub row-again : (next v : ℕ) (after : List ℕ) → x < w → after ≡ set part (w + 1 + x) (get_or part x 0 + run) → v ≡ f x → next ≡ run + v → RowInv e w f after next (x + 1)
-    unfolding sum_to
-    row-again next v after h put value sum =
-        record {
-          within = omega arith;
-          total = sum ∙ rw (add-one, value) (ap (λ r. r + f x) i.total);
-          filled = put ∙ row-store ∙ ap (λ k. take (w + 1) e ++ list_of (x + 1) (cell e f) ++ drop k e) (add_assoc (w + 1) x 1);
-        }
-
-    pub row_done : (after : List ℕ) → w ≤ x → after ≡ set part (w + 1 + x) (get_or part x 0 + run) → after ≡ next_row w f e
-    unfolding next_row
-    row_done after h put =
-        let last : x ≡ w = le_antisymm i.within h in
-        let none : drop (w + 1 + w + 1) e ≡ [] = drop_of_length-le e {i = w + 1 + w + 1} (omega arith) in
-        put ∙ row-store ∙ rw (last, none, append-nil)
+-- all of a row but its last cell, and then that cell
+pub row_last : (w : ℕ) (f : ℕ → ℕ) (above below part : List ℕ) (run : ℕ) → length above ≡ w + 1 → length below ≡ length above
+    → part ≡ sums_below (λ x. sum_to x f) (take w above) → run ≡ sum_to w f → set (part ++ drop w below) w (get_or above w 0 + run) ≡ next_row w f above
+unfolding next_row sums_below
+row_last w f above below part run e same made sum =
+    let cell : ℕ → ℕ = λ x. get_or above x 0 + sum_to x f in
+    let cells : part ≡ list_of w cell =
+    made ∙ rw (length-take-le w above (omega arith)) (list_of-same w _ _ (λ i h. ap (λ v. v + sum_to i f) (get_or-take w above i 0 h))) in
+    rw cells (filled_next w cell below _ (omega arith) (ap (λ v. get_or above w 0 + v) sum) ∙ filled-end (w + 1) (w + 1) cell below refl (same ∙ e))

@@ -1,5 +1,5 @@
 -- A signed shift, and a column moved by it. Assumes nothing.
-use Prim.Native.Nat.{ℕ, zero, suc, ◌+◌, ◌*◌, ◌-◌, ◌≤◌, ◌<◌, zero-le, min}
+use Prim.Native.Nat.{ℕ, suc, ◌+◌, ◌*◌, ◌-◌, ◌≤◌, ◌<◌, zero-le, min}
 use mathlib.Core.Path.{◌≡◌, sym, ap, subst, fun_ext}
 use mathlib.Core.Bool.{true, false, true≢false}
 use mathlib.Core.List.{List}
@@ -24,15 +24,10 @@ pub non-neg : (z : ℤ) → lt_z z (pos 0) ≡ false → T (non_neg z)
 non-neg (pos n) e = tt
 non-neg (negsuc n) e = absurd (true≢false e)
 
-pub neg-non-neg : (z : ℤ) → lt_z z (pos 0) ≡ true → T (non_neg (neg_ℤ z))
-neg-non-neg (pos zero) e = tt
-neg-non-neg (pos (suc n)) e = absurd (omega (arith, ltb-true (suc n) 0 e))
-neg-non-neg (negsuc n) e = tt
-
 -- ---- the columns that both rows have
 
 -- as they are worked out, by the shift's sign
-pub overlap-left : (n m : ℕ) (s : ℤ) → lt_z s (pos 0) ≡ true → (d first count : ℕ) → d ≡ nat_abs s → first ≡ min d n → count ≡ min (n - first) m
+pub overlap-left : (n m : ℕ) (s : ℤ) → lt_z s (pos 0) ≡ true → (d first count : ℕ) → d ≡ nat_abs s → first ≡ min d n → count ≡ min m (n - first)
     → record { first = first; other = 0; count = count } ≡ overlap_of n m s
 unfolding overlap_of
 overlap-left n m (pos b) e d first count ed ef ec = absurd (omega (arith, ltb-true b 0 e))

@@ -1,5 +1,5 @@
 -- The loop over a table's rows, once for every kind of table: f is the picture's values.
-use Prim.Native.Nat.{ℕ, zero, suc, ◌+◌, ◌*◌, ◌-◌, ◌≤◌, ◌<◌, zero-le}
+use Prim.Native.Nat.{ℕ, zero, suc, ◌+◌, ◌*◌, ◌-◌, ◌^◌, ◌≤◌, ◌<◌, zero-le}
 use mathlib.Core.Path.{◌≡◌, sym, ap, ap₂, ◌∙◌}
 use mathlib.Core.List.{List, [], ◌++◌, append-nil, append_assoc}
 use native.Mathlib.Numerals.{add-one}
@@ -7,27 +7,21 @@ use native.Mathlib.Nat.{add-mul, le_refl, zero-mul, one-mul, min-le_left, le_ant
 use mathlib.Core.Logic.{⊎_elim}
 use native.Mathlib.Omega.{arith}
 use borrow.Rule.Slice.PartMut.{put_mid, same_len_mid}
-use lib.ListN.{length, get_or, take, drop, replicate, length-replicate, length-append, length-drop, length-take, drop_of_length-le, get_or-append, get_or-eq_default}
-use lib.Seq.{length-take-le, take_at, drop_at, get_or-take, drop-drop, take-take, drop-append-add}
+use lib.ListN.{length, get_or, take, drop, replicate, length-replicate, length-append, length-drop, length-take, drop_of_length-le, get_or-eq_default}
+use lib.Seq.{length-take-le, take_at, drop_at, drop-drop, take-take, drop-append-add}
 use Rattle.options.specs.Limits.{side_most}
 use Rattle.lists.proofs.Tests.{lt-or-le}
 use Rattle.lists.proofs.Rows.{row_at}
 use Rattle.lists.proofs.Lists.{list_of-length, list_of-at, list_of-same, list_of-const}
 use Rattle.lists.specs.Lists.{list_of}
-use Rattle.lists.specs.Rows.{level_at, row_of}
+use Rattle.lists.specs.Rows.{level_at}
 use Rattle.lists.specs.Sums.{sum_to, sum_rect}
-use Rattle.windows.specs.Table.{Sizes, RowReady, next_row, table_rows, table_of}
-use Rattle.lists.proofs.Sums.{sum_to-same, sum_to-bound}
+use Rattle.windows.specs.Table.{RowReady, next_row, table_rows, table_of}
+use Rattle.lists.proofs.Sums.{sum_to-bound}
 
--- what the code lends: rows y and y + 1 of the table, and row y of the picture
+-- what the code lends: rows y and y + 1 of the table
 abbrev pub lent_rows : ℕ → ℕ → List ℕ → List ℕ
 lent_rows w y table = take (y * (w + 1) + 2 * (w + 1) - y * (w + 1)) (drop (y * (w + 1)) table)
-
-abbrev pub row_lent : ℕ → ℕ → List ℕ → List ℕ
-row_lent w y pic = take (y * w + w - y * w) (drop (y * w) pic)
-
-pub lent_row : (w y : ℕ) (pic : List ℕ) → row_lent w y pic ≡ row_of w pic y
-lent_row w y pic = ap (λ k. take k (drop (y * w) pic)) (add-sub_cancel_left (y * w) w)
 
 abbrev row : ℕ → (ℕ → ℕ → ℕ) → ℕ → List ℕ
 row w f y = list_of (w + 1) (λ x. sum_rect x y f)
@@ -77,9 +71,6 @@ unfolding sum_rect
 sum_rect-bound m w h f small =
     sum_to-bound (w * m) h (λ y. sum_to w (λ x. f x y)) (λ y _. sum_to-bound m w (λ x. f x y) (λ x _. small x y))
 
-pub row-of-length : (w h y : ℕ) (pic : List ℕ) → length pic ≡ w * h → y * w + w ≤ w * h → length (take w (drop (y * w) pic)) ≡ w
-row-of-length w h y pic e l = length-take-le w (drop (y * w) pic) (rw length-drop (omega arith))
-
 module _ (w h : ℕ) (f : ℕ → ℕ → ℕ) (small : (x y : ℕ) → f x y ≤ 65025) (start : List ℕ) (lw : w ≤ side_most) (lh : h ≤ side_most) (table : List ℕ) (y : ℕ) (i : TableInv w h f start table y) (more : y < h) where
   at : Spots w h y
   at = spots w h y lw lh more
@@ -94,43 +85,38 @@ module _ (w h : ℕ) (f : ℕ → ℕ → ℕ) (small : (x y : ℕ) → f x y �
   first : take (y * (w + 1)) table ≡ table_rows w y f
   first = rw split (take_at (table_rows w y f) _ (y * (w + 1)) (length-rows w y f))
 
-  -- the first of the two rows that are lent is right
-  lent-first : (x : ℕ) → x < w + 1 → get_or (lent_rows w y table) x 0 ≡ sum_rect x y f
-  lent-first x l =
+  pub lent_first : take (w + 1) (lent_rows w y table) ≡ row w f y
+  lent_first =
       rw (add-sub_cancel_left, rest)
-      (get_or-take (2 * (w + 1)) _ x 0 (omega arith)
-      ∙ get_or-append (row w f y) _ 0 x (rw list_of-length l)
-      ∙ list_of-at (w + 1) (λ x. sum_rect x y f) x 0 l)
+      (take-take (w + 1) (2 * (w + 1)) _ (omega arith) ∙ take_at (row w f y) _ (w + 1) (list_of-length (w + 1) _))
 
   lent_length : length (lent_rows w y table) ≡ 2 * (w + 1)
   lent_length = rw add-sub_cancel_left (length-take-le (2 * (w + 1)) _ (rw length-drop (omega (arith, at, i.size))))
 
-  lent-take : take (w + 1) (lent_rows w y table) ≡ row w f y
-  lent-take =
-      rw (add-sub_cancel_left, rest)
-      (take-take (w + 1) (2 * (w + 1)) _ (omega arith) ∙ take_at (row w f y) _ (w + 1) (list_of-length (w + 1) _))
+  -- the upper of the two rows that are lent has room for another row's sum
+  room : (x : ℕ) → get_or (row w f y) x 0 < 2 ^ 52
+  room x =
+      ⊎_elim
+      (λ (l : x < w + 1).
+      let few : y * (x * 65025) ≤ side_most * (side_most * 65025) = mul-le-mul {n₂ = side_most} {m₂ = side_most * 65025} (omega arith) (omega arith) in
+      rw (list_of-at (w + 1) (λ x. sum_rect x y f) x 0 l) (omega (arith, sum_rect-bound 65025 x y f small)))
+      (λ (l : w + 1 ≤ x). rw (get_or-eq_default (row w f y) 0 {n = x} (rw list_of-length l)) (omega arith))
+      (lt-or-le x (w + 1))
 
-  pub table-ready : (pic : List ℕ) → length pic ≡ w * h → RowReady (length (row_lent w y pic)) (lent_rows w y table)
-  table-ready pic e =
-      rw (add-sub_cancel_left (y * w) w, row-of-length w h y pic e at.picture-end)
-      record {
-        width = lw;
-        size = lent_length;
-        room =
-            λ x l.
-            let few : y * (x * 65025) ≤ side_most * (side_most * 65025) =
-            mul-le-mul {n₂ = side_most} {m₂ = side_most * 65025} (omega arith) (omega arith) in
-            rw (lent-first x (omega arith)) (omega (arith, sum_rect-bound 65025 x y f small));
-      }
+  pub table-ready : RowReady w (take (w + 1) (lent_rows w y table))
+  table-ready =
+      rw lent_first record { width = lw; size = list_of-length (w + 1) (λ x. sum_rect x y f); room = room }
 
-  module _ (after pic : List ℕ) (g : ℕ → ℕ) (e : length pic ≡ w * h) (same : (x : ℕ) → g x ≡ f x y) (made : after ≡ next_row (length (row_lent w y pic)) g (lent_rows w y table)) where
+  pub rows-even : length (drop (w + 1) (lent_rows w y table)) ≡ length (take (w + 1) (lent_rows w y table))
+  rows-even = rw (lent_first, list_of-length) (length-drop (w + 1) (lent_rows w y table) ∙ omega (arith, lent_length))
+
+  module _ (after left : List ℕ) (joined : after ≡ take (w + 1) (lent_rows w y table) ++ left) (made : left ≡ next_row w (λ x. f x y) (take (w + 1) (lent_rows w y table))) where
     after_is : after ≡ row w f y ++ row w f (suc y)
     unfolding next_row sum_rect sum_to
     after_is =
-        made
-        ∙ rw (add-sub_cancel_left (y * w) w, row-of-length w h y pic e at.picture-end, lent-take)
-        (ap (λ l. row w f y ++ l)
-        (list_of-same (w + 1) _ _ (λ x l. ap₂ (λ a b. a + b) (lent-first x l) (sum_to-same x g (λ x. f x y) (λ x _. same x)))))
+        joined
+        ∙ rw (made, lent_first)
+        (ap (λ l. row w f y ++ l) (list_of-same (w + 1) _ _ (λ x l. ap (λ a. a + sum_to x (λ x. f x y)) (list_of-at (w + 1) (λ x. sum_rect x y f) x 0 l))))
 
     after-length : length after ≡ length (lent_rows w y table)
     after-length = rw (after_is, lent_length) (simp (length-append, list_of-length) (omega arith))
@@ -162,11 +148,11 @@ level-small w pic small x y =
     (lt-or-le x w)
 
 -- the first row is within the table
-pub first_fits : {w h : ℕ} {table pic : List ℕ} → Sizes w h table pic → w + 1 ≤ length table
-first_fits {w} {h} z = omega (arith, rows_fit (w + 1) 1 (h + 1) (omega arith))
+pub first_fits : (w h : ℕ) (table : List ℕ) → length table ≡ (w + 1) * (h + 1) → w + 1 ≤ length table
+first_fits w h table e = omega (arith, rows_fit (w + 1) 1 (h + 1) (omega arith))
 
-pub first-row : {w h : ℕ} {table pic : List ℕ} → Sizes w h table pic → length (take (w + 1) table) ≡ w + 1
-first-row {w} {h} {table} z = length-take-le (w + 1) table (first_fits z)
+pub first-row : (w h : ℕ) (table : List ℕ) → length table ≡ (w + 1) * (h + 1) → length (take (w + 1) table) ≡ w + 1
+first-row w h table e = length-take-le (w + 1) table (first_fits w h table e)
 
 pub table-start : (w h : ℕ) (f : ℕ → ℕ → ℕ) (before cleared : List ℕ) → length before ≡ (w + 1) * (h + 1) → cleared ≡ replicate (w + 1) 0
     → TableInv w h f (cleared ++ drop (w + 1) before) (cleared ++ drop (w + 1) before) 0

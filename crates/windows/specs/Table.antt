@@ -1,5 +1,5 @@
 -- Summed-area tables of a picture (docs/SPECIFICATION.md, "Window sums"). Definitions only.
-use Rattle.std.specs.Prelude.{ℕ, zero, suc, ◌+◌, ◌*◌, ◌^◌, ◌≤◌, ◌<◌, ◌≡◌, List, [], ◌++◌, ℤ, pos, negsuc, ◌+ℤ◌, length, get_or, take}
+use Rattle.std.specs.Prelude.{ℕ, zero, suc, ◌+◌, ◌*◌, ◌^◌, ◌≤◌, ◌<◌, ◌≡◌, List, [], ◌++◌, ℤ, pos, negsuc, ◌+ℤ◌, length, get_or}
 use Rattle.options.specs.Limits.{side_most}
 use Rattle.lists.specs.Lists.{list_of}
 use Rattle.lists.specs.Rows.{row_of, level_at}
@@ -43,12 +43,12 @@ table_rows w (suc y) f = table_rows w y f ++ list_of (w + 1) (λ x. sum_rect x y
 unfoldable pub table_of : ℕ → ℕ → (ℕ → ℕ → ℕ) → List ℕ
 table_of w h f = table_rows w (h + 1) f
 
--- two rows of a table of which the second is filled from the first: cell x is the one above it plus the row's sum over columns < x
+-- a row of a table that is filled from the row above it: cell x is the one above plus the row's sum over columns < x
 unfoldable pub next_row : ℕ → (ℕ → ℕ) → List ℕ → List ℕ
-next_row w g part = take (w + 1) part ++ list_of (w + 1) (λ x. get_or part x 0 + sum_to x g)
+next_row w g above = list_of (w + 1) (λ x. get_or above x 0 + sum_to x g)
 
--- two rows of a table of a picture of w columns, the first with room for another row's sum in each cell
-pub record RowReady (w : ℕ) (part : List ℕ) : Type 0 where
+-- a row of a table of a picture of w columns, with room for another row's sum in each cell
+pub record RowReady (w : ℕ) (above : List ℕ) : Type 0 where
   pub width : w ≤ side_most
-  pub size : length part ≡ 2 * (w + 1)
-  pub room : (x : ℕ) → x ≤ w → get_or part x 0 < 2 ^ 52
+  pub size : length above ≡ w + 1
+  pub room : (x : ℕ) → get_or above x 0 < 2 ^ 52

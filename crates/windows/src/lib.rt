@@ -1,85 +1,64 @@
 // Summed-area tables of a picture, the sum over a window from a table's four corners, and the variance of a
-// window, all as whole numbers (document 01, "Window sums").
+// window, all as whole numbers (docs/SPECIFICATION.md, "Window sums").
 #![tactic(auto)]
 
-ghost use Rattle.std.specs.Prelude.{◌≡◌, ◌+◌, ◌*◌, ◌^◌, ◌≤◌, ◌<◌, min, nat_abs, length, get_or, set};
+ghost use Rattle.std.specs.Prelude.{◌≡◌, ℕ, ◌+◌, ◌*◌, ◌^◌, ◌≤◌, ◌<◌, min, nat_abs, List, ◌++◌, length, get_or, take, drop};
 ghost use Rattle.options.specs.Limits.{side_most, shift_most};
 ghost use Rattle.lists.specs.Rows.{level_at};
 ghost use Rattle.windows.specs.Table.{Sizes, RowReady, next_row, table_of, level_in, square_at, cross_in, cross_at};
 ghost use Rattle.lists.specs.Sums.{sum_to};
-ghost use Rattle.windows.specs.Parts.{overlap_of, product_in, Columns, sums_below};
+ghost use Rattle.windows.specs.Parts.{overlap_of, product_in, Beside, IsSmall, Gives, sums_below, TakesRow, FillsRow, AddsRows};
 ghost use Rattle.windows.specs.Window.{corner_sum, Corners};
 ghost use Rattle.windows.specs.Moments.{variance_of};
 
-use lists::clear_u64;
-
-fn wide(level: u8) -> u64
-    ensures { result ≡ level }
+// Where a picture has no pixel the row's sum stays as it is. It is no case of `add_values`: there each cell waits for the sum before it.
+fn add_run(below: &mut [u64], above: &[u64], run: u64)
+    requires { Beside above.now below.old × (run < 2 ^ 52) }
+    ensures { below.new ≡ sums_below (λ _. run) above.now }
 {
-    level as u64
+    for (i, cell) in above.iter().enumerate() {
+        below[i] = *cell + run;
+    }
 }
 
-// One cell of the second of two rows: the cell above it plus the row's sum so far.
-fn put_below(part: &mut [u64], side: usize, x: usize, run: u64)
-    requires { (x < length part.old) × (side + x < length part.old) × (get_or part.old x 0 + run < 2 ^ 64) }
-    ensures { part.new ≡ set part.old (side + x) (get_or part.old x 0 + run) }
+// Where it has one the row's sum grows by the pixel's value; the whole sum is the result. Callers pass closures by `move`:
+// what a loop reads behind a reference to a local is loaded at every turn.
+fn add_values<F: Fn(usize) -> u64>(below: &mut [u64], above: &[u64], value: F) -> u64
+    requires rows { Beside above.now below.old × (length above.now ≤ side_most) }
+    requires small { IsSmall (F.pre value) (F.post value) (length above.now) }
+    ensures { (g : ℕ → ℕ) → Gives (F.post value) (length above.now) g → (result ≡ sum_to (length above.now) g) × (below.new ≡ sums_below (λ i. sum_to i g) above.now) }
 {
-    part[side + x] = part[x] + run;
-}
-
-// Fills the second of two rows of a table from the first and the levels of the picture's row.
-fn add_levels(part: &mut [u64], levels: &[u8])
-    requires { RowReady (length levels.now) part.old }
-    ensures { part.new ≡ next_row (length levels.now) (level_in levels.now) part.old }
-{
-    let side = levels.len() + 1;
     let mut run: u64 = 0;
-    let mut x = 0;
-    while x < levels.len() {
-        put_below(part, side, x, run);
-        run += wide(levels[x]);
-        x += 1;
+    for (i, cell) in above.iter().enumerate() {
+        below[i] = *cell + run;
+        run += value(i);
     }
-    put_below(part, side, x, run);
+    run
 }
 
-// The table of the picture's levels.
-pub fn fill_levels(table: &mut [u64], pic: &[u8], w: usize, h: usize)
-    requires { Sizes w h table.old pic.now }
-    ensures { table.new ≡ table_of w h (level_at w pic.now) }
+// Fills a row of a table from the row above it and the levels of the picture's row.
+fn add_levels(below: &mut [u64], above: &[u64], levels: &[u8])
+    requires { RowReady (length levels.now) above.now × (length below.old ≡ length above.now) }
+    ensures { below.new ≡ next_row (length levels.now) (level_in levels.now) above.now }
 {
-    let side = w + 1;
-    clear_u64(&mut table[..side]);
-    let mut y = 0;
-    while y < h {
-        let top = y * side;
-        let end = top + 2 * side;
-        let first = y * w;
-        let last = first + w;
-        add_levels(&mut table[top..end], &pic[first..last]);
-        y += 1;
-    }
+    let w = levels.len();
+    let run = add_values(&mut below[..w], &above[..w], move |x| u64::from(levels[x]));
+    below[w] = above[w] + run;
 }
 
 // The product of two levels.
 pub fn product(a: u8, b: u8) -> u64
     ensures { result ≡ a * b }
 {
-    wide(a) * wide(b)
+    u64::from(a) * u64::from(b)
 }
 
 // The columns of a row whose counterparts the other row has too, and where those begin.
-#[derive(Drop)]
+#[derive(Clone, Copy)]
 struct Overlap {
     first: usize,
     other: usize,
     count: usize,
-}
-
-fn lesser(a: usize, b: usize) -> usize
-    ensures { result ≡ min a b }
-{
-    if b < a { b } else { a }
 }
 
 // How far apart two columns are.
@@ -87,29 +66,27 @@ pub fn distance(shift: i64) -> usize
     requires { nat_abs shift ≤ shift_most }
     ensures { result ≡ nat_abs shift }
 {
-    if shift < 0 {
-        (0 - shift) as usize
-    } else {
-        shift as usize
-    }
+    shift.unsigned_abs() as usize
 }
 
 fn overlap_of(n: usize, m: usize, shift: i64) -> Overlap
     requires { nat_abs shift ≤ shift_most }
-    ensures { result ≡ overlap_of n m shift }
+    ensures is { result ≡ overlap_of n m shift }
+    ensures within { result.first + result.count ≤ n }
+    ensures within_other { result.other + result.count ≤ m }
 {
     let apart = distance(shift);
     if shift < 0 {
-        let first = lesser(apart, n);
-        let count = lesser(n - first, m);
+        let first = apart.min(n);
+        let count = m.min(n - first);
         return Overlap {
             first,
             other: 0,
             count,
         };
     }
-    let other = lesser(apart, m);
-    let count = lesser(n, m - other);
+    let other = apart.min(m);
+    let count = n.min(m - other);
     Overlap {
         first: 0,
         other,
@@ -117,43 +94,62 @@ fn overlap_of(n: usize, m: usize, shift: i64) -> Overlap
     }
 }
 
-// Where one of the rows has no pixel the row's sum stays as it is.
-fn add_run(part: &mut [u64], side: usize, first: usize, count: usize, run: u64)
-    requires { Columns side first count part.old × (run < 2 ^ 52) }
-    ensures { part.new ≡ sums_below side first count (λ _. run) part.old }
+// Fills a row of a table from the row above it and the products of a's levels by b's shifted ones.
+fn add_cross(below: &mut [u64], above: &[u64], a: &[u8], b: &[u8], shift: i64)
+    requires { RowReady (length a.now) above.now × (length below.old ≡ length above.now) × (nat_abs shift ≤ shift_most) }
+    ensures { below.new ≡ next_row (length a.now) (cross_in a.now b.now shift) above.now }
 {
-    for i in 0..count {
-        put_below(part, side, first + i, run);
-    }
-}
-
-// Where both rows have one it grows by the product; the whole sum is the result.
-fn add_products(part: &mut [u64], side: usize, first: usize, a: &[u8], b: &[u8]) -> u64
-    requires { Columns side first (length a.now) part.old × (length b.now ≡ length a.now) × (length a.now ≤ side_most) }
-    ensures { (result ≡ sum_to (length a.now) (product_in a.now b.now)) × (part.new ≡ sums_below side first (length a.now) (λ i. sum_to i (product_in a.now b.now)) part.old) }
-{
-    let mut run: u64 = 0;
-    for i in 0..a.len() {
-        put_below(part, side, first + i, run);
-        run += product(a[i], b[i]);
-    }
-    run
-}
-
-// Fills the second of two rows of a table from the first and the products of a's levels by b's shifted ones.
-fn add_cross(part: &mut [u64], a: &[u8], b: &[u8], shift: i64)
-    requires { RowReady (length a.now) part.old × (nat_abs shift ≤ shift_most) }
-    ensures { part.new ≡ next_row (length a.now) (cross_in a.now b.now shift) part.old }
-{
-    let side = a.len() + 1;
     let both = overlap_of(a.len(), b.len(), shift);
     let first = both.first;
     let other = both.other;
     let end = first + both.count;
-    let other_end = other + both.count;
-    add_run(part, side, 0, first, 0);
-    let run = add_products(part, side, first, &a[first..end], &b[other..other_end]);
-    add_run(part, side, end, side - end, run);
+    add_run(&mut below[..first], &above[..first], 0);
+    let run = add_values(&mut below[first..end], &above[first..end], move |i| {
+        product(a[first + i], b[other + i])
+    });
+    add_run(&mut below[end..], &above[end..], run);
+}
+
+// Fills the second of two rows of `side` cells, row y + 1 of a table, from the first.
+fn fill_row<F: Fn(usize, &mut [u64], &[u64])>(rows: &mut [u64], side: usize, y: usize, add_row: &F)
+    requires inside { side ≤ length rows.old }
+    requires takes { TakesRow F.Fn add_row.now y (take side rows.old) (drop side rows.old) }
+    ensures { (below : List ℕ) × FillsRow F.Fn add_row.now y (take side rows.old) (drop side rows.old) below × (rows.new ≡ take side rows.old ++ below) }
+{
+    let (above, below) = rows.split_at_mut(side);
+    add_row(y, below, above);
+}
+
+// Fills a table from a first row of zeros on; `add_row` fills row y + 1 from row y.
+fn fill_rows<F: Fn(usize, &mut [u64], &[u64])>(table: &mut [u64], w: usize, h: usize, add_row: &F)
+    ghost v: { ℕ → ℕ → ℕ }
+    requires sizes { (w ≤ side_most) × (h ≤ side_most) × (length table.old ≡ (w + 1) * (h + 1)) }
+    requires small { (x y : ℕ) → v x y ≤ 65025 }
+    requires adds { AddsRows F.Fn add_row.now w h v }
+    ensures { table.new ≡ table_of w h v }
+{
+    let side = w + 1;
+    table[..side].fill(0);
+    for y in 0..h {
+        let top = y * side;
+        let end = top + 2 * side;
+        fill_row(&mut table[top..end], side, y, add_row);
+    }
+}
+
+// The table of the picture's levels.
+pub fn fill_levels(table: &mut [u64], pic: &[u8], w: usize, h: usize)
+    requires { Sizes w h table.old pic.now }
+    ensures { table.new ≡ table_of w h (level_at w pic.now) }
+{
+    let add_row = |y: usize, below: &mut [u64], above: &[u64]|
+        requires { (y * w + w ≤ length pic.now) × RowReady w above.now × (length below.old ≡ length above.now) }
+        ensures { below.new ≡ next_row w (λ x. level_at w pic.entry.now x y) above.now }
+    {
+        let first = y * w;
+        add_levels(below, above, &pic[first..first + w]);
+    };
+    fill_rows(table, w, h, &add_row);
 }
 
 // The table of the products of a's levels by b's, taken `shift` columns further right.
@@ -161,22 +157,15 @@ pub fn fill_cross(table: &mut [u64], a: &[u8], b: &[u8], w: usize, h: usize, shi
     requires { Sizes w h table.old a.now × (length b.now ≡ w * h) × (nat_abs shift ≤ shift_most) }
     ensures { table.new ≡ table_of w h (cross_at w a.now b.now shift) }
 {
-    let side = w + 1;
-    clear_u64(&mut table[..side]);
-    let mut y = 0;
-    while y < h {
-        let top = y * side;
-        let end = top + 2 * side;
+    let add_row = move |y: usize, below: &mut [u64], above: &[u64]|
+        requires { (y * w + w ≤ length a.now) × (length b.now ≡ length a.now) × (nat_abs shift ≤ shift_most) × RowReady w above.now × (length below.old ≡ length above.now) }
+        ensures { below.new ≡ next_row w (λ x. cross_at w a.entry.now b.entry.now shift x y) above.now }
+    {
         let first = y * w;
         let last = first + w;
-        add_cross(
-            &mut table[top..end],
-            &a[first..last],
-            &b[first..last],
-            shift,
-        );
-        y += 1;
-    }
+        add_cross(below, above, &a[first..last], &b[first..last], shift);
+    };
+    fill_rows(table, w, h, &add_row);
 }
 
 // The table of the squares of the picture's levels: its products with itself, unshifted.
@@ -188,6 +177,7 @@ pub fn fill_squares(table: &mut [u64], pic: &[u8], w: usize, h: usize)
 }
 
 // The sum over a window of n · n pixels, from the four corners of a table in rows of `side` cells; `at` is the first of them.
+#[tactic(auto, unfolding(crate::specs::Window::corner_sum))]
 pub fn window_sum(table: &[u64], side: usize, at: usize, n: usize) -> u64
     requires { Corners table.now side at n }
     ensures { result ≡ corner_sum table.now side at n }

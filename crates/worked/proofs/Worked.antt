@@ -1,4 +1,4 @@
--- THE WORKED EXAMPLES of document 01 hold of the definitions. Assumes nothing.
+-- THE WORKED EXAMPLES of docs/SPECIFICATION.md hold of the definitions. Assumes nothing.
 use mathlib.Core.Path.{refl}
 use lib.Ieee.{to_bits, mul, div, of_int, round, size, climb, span, units, odd, lt, eq, le, sub, sum, add, neg, of_bits, of_fields, to_unsigned, is_nan}
 use Rattle.numbers.specs.Root.{root_of, nearest_root, whole_root}

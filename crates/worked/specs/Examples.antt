@@ -1,5 +1,5 @@
 -- The worked examples P1 to P12, and the map that the print program shows: one table (docs/SPECIFICATION.md, "Worked examples"). Definitions only.
-use Rattle.std.specs.Prelude.{ℕ, ◌+◌, ◌^◌, ◌≡◌, true, false, List, [], ◌∷◌, ◌++◌, map, pos, negsuc, Float}
+use Rattle.std.specs.Prelude.{ℕ, ◌+◌, ◌^◌, ◌≡◌, true, false, List, [], ◌∷◌, ◌++◌, map, Some, None, pos, negsuc, Float}
 use Rattle.std.specs.Float.{fin, binary32, binary64}
 use Rattle.std.specs.Float.Ieee.{to_bits, to_unsigned}
 use Rattle.numbers.specs.Root.{root_of}
@@ -9,7 +9,6 @@ use Rattle.options.specs.Costs.{stored}
 use Rattle.costs.specs.Raw.{window_var, window_cov}
 use Rattle.choices.specs.LeftRight.{column, outside}
 use Rattle.choices.specs.Subpixel.{placed}
-use Rattle.points.specs.declared.Point3.TheVariants.{None, At}
 use Rattle.points.specs.Point.{point_of}
 use Rattle.matching.specs.Maps.{map_of}
 use Rattle.worked.specs.Pictures.{rows147, rows472, rows725, f32, f64, quarter, one, eight, eight_costs, camera, print_left, print_right, print_options}
@@ -53,7 +52,7 @@ pub record Examples : Type 0 where
   -- k = 3, first 0, count 8, cm 0.25, best 1, cp 0.75: 3.25
   pub p11 : placed eight (map stored eight_costs) 3 one ≡ f32 0x4050_0000
   -- pixel (360, 200), d 4: (1.25, -1.25, 25); d 0: no point
-  pub p12 : point_of camera (f64 360) (f64 200) (f64 4) ≡ At (fin false 5 (negsuc 1)) (fin true 5 (negsuc 1)) (f64 25)
+  pub p12 : point_of camera (f64 360) (f64 200) (f64 4) ≡ Some (record { x = fin false 5 (negsuc 1); y = fin true 5 (negsuc 1); z = f64 25 })
   pub p12-none : point_of camera (f64 360) (f64 200) (f64 0) ≡ None
   -- the printed map, and the same with left-right on
   pub print : map (to_bits binary32) (map_of 5 3 (print_options false) print_left print_right) ≡ printed

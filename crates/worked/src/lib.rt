@@ -1,3 +1,3 @@
-// Document 01's worked examples, of the definitions: specs/ has the table, proofs/ the theorem that it holds. There is no code.
+// The worked examples of docs/SPECIFICATION.md, of the definitions: specs/ has the table, proofs/ the theorem that it holds. There is no code.
 
 #![tactic(auto)]

@@ -5,7 +5,3 @@ use Rattle.calls.proofs.is_penalty.Goals as goal
 pub returns-then-p : goal.returns-then-p
 unfolding of_bits
 returns-then-p c = rw c.if-p.true
-
-pub returns-else-p : goal.returns-else-p
-unfolding of_bits
-returns-else-p c = rw c.if-p.false

@@ -1,9 +1,6 @@
--- `holes::open_plane` meets its contract: before pixel p the first p cells are done; the pixels that are left fall. Assumes nothing.
-use Prim.Native.Nat.{ℕ, ◌≤◌}
-use mathlib.Core.List.{List, ◌++◌}
-use mathlib.Core.Path.{◌≡◌}
+-- `holes::open_plane` meets its contract: before pixel p the first p cells are done. Assumes nothing.
+use Rattle.std.proofs.Common.{◌≡◌, ℕ, List, ◌++◌, get_or, drop}
 use lib.Ieee.{Float, nan}
-use lib.ListN.{length, get_or, drop}
 use Rattle.lists.specs.Lists.{list_of}
 use Rattle.options.specs.Costs.{raw_of}
 use Rattle.maps.specs.Cells.{in_buffer, cell_of}
@@ -15,4 +12,4 @@ abbrev pub at-pixel : List Float → List Float → ℕ → Float
 at-pixel before plane p = in_buffer (opened_by (raw_of (get_or plane p nan)) (cell_of (get_or before p nan)))
 
 abbrev pub invariant-loop-p : goal.invariant-loop-p
-invariant-loop-p l = (l.p ≤ l.p-end) × (length l.out ≡ length l.initial.out) × (l.out ≡ list_of l.p (at-pixel l.initial.out l.plane) ++ drop l.p l.initial.out)
+invariant-loop-p l = l.out ≡ list_of l.p (at-pixel l.initial.out l.plane) ++ drop l.p l.initial.out

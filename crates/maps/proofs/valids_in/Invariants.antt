@@ -1,12 +1,7 @@
--- `maps::valids_in` meets its contract: the valid cells counted, and those from i on, are all. Assumes nothing.
-use mathlib.Core.Path.{◌≡◌}
-use Prim.Native.Nat.{◌+◌, ◌≤◌, ◌-◌}
-use lib.ListN.{length, drop}
-use Rattle.maps.specs.Map.{valids}
+-- `maps::valids_in` meets its contract: at each turn the valid cells so far are counted. Assumes nothing.
+use Rattle.std.proofs.Common.{◌≡◌, count_by, take}
+use Rattle.std.specs.Float.Ieee.Scale.{finite}
 use Rattle.maps.proofs.valids_in.Given as goal
 
-abbrev pub invariant-loop-i : goal.invariant-loop-i
-invariant-loop-i l = (l.i ≤ length l.cells) × ((l.n ≤ l.i) × (l.n + valids (drop l.i l.cells) ≡ valids l.cells))
-
-abbrev pub decreases-loop-i : goal.decreases-loop-i
-decreases-loop-i l = length l.cells - l.i
+abbrev pub invariant-loop-x : goal.invariant-loop-x
+invariant-loop-x l = l.n ≡ count_by finite (take l.x-index l.cells)

@@ -1,10 +1,6 @@
--- `points::points` meets its contract: before each turn n of the plan's records are written, and the next one is that of a cell from `at` on. Assumes nothing.
-use Rattle.std.proofs.Common.{◌-◌}
+-- `points::points` meets its contract: the cells before i are seen, and n records of them are written. Assumes nothing.
 use Rattle.points.proofs.Filling.{Filling}
 use Rattle.points.proofs.points.Given as goal
 
-abbrev pub invariant-loop-n : goal.invariant-loop-n
-invariant-loop-n l = Filling l.width l.height l.cells l.k l.fn.list l.plan.count l.n l.at l.list
-
-abbrev pub decreases-loop-n : goal.decreases-loop-n
-decreases-loop-n l = l.plan.count - l.n
+abbrev pub invariant-loop-i : goal.invariant-loop-i
+invariant-loop-i l = Filling l.map.width l.camera l.map.cells.now l.fn.list l.n l.i l.list

@@ -21,4 +21,4 @@ plain b l =
     (λ e. let f = eqb-true (b % 2 ^ 31 / 2 ^ 23) 255 e in eq-eqb (b % 2 ^ 23) 0 (omega arith))
 
 pub float_from_bits-result : goal.float_from_bits-result
-float_from_bits-result c = plain c.word-bits.result (omega arith)
+float_from_bits-result c = plain c.from_le_bytes-bits.result (omega arith)

@@ -1,12 +1,13 @@
--- `replay::replay` is safe: the counts stay at most the place, and the bytes that are left fall. Assumes nothing.
-use Prim.Native.Nat.{◌-◌, ◌≤◌}
-use mathlib.Core.Path.{◌≡◌}
-use lib.ListN.{length}
+-- `replay::replay` is safe: each count and the bytes that are left are together no more than the bytes; what is left falls.
+use Rattle.std.proofs.Common.{◌+◌, ◌≤◌, length}
 use Rattle.replay.proofs.replay.Given as goal
 
-abbrev pub invariant-loop-tally : goal.invariant-loop-tally
-invariant-loop-tally l =
-    (length l.cells ≡ length l.initial.cells) × (length l.whole ≡ length l.initial.whole) × (length l.float ≡ length l.initial.float) × (l.tally.at ≤ length l.bytes) × (l.tally.cells ≤ l.tally.at) × (l.tally.maps ≤ l.tally.at) × (l.tally.differ ≤ l.tally.at)
+abbrev pub invariant-loop-rest : goal.invariant-loop-rest
+invariant-loop-rest l = record {
+  maps : l.tally.maps + length l.rest ≤ 65536;
+  cells : l.tally.cells + length l.rest ≤ 65536;
+  differ : l.tally.differ + length l.rest ≤ 65536;
+}
 
-abbrev pub decreases-loop-tally : goal.decreases-loop-tally
-decreases-loop-tally l = length l.bytes - l.tally.at
+abbrev pub decreases-loop-rest : goal.decreases-loop-rest
+decreases-loop-rest l = length l.rest

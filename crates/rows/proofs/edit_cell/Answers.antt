@@ -1,63 +1,47 @@
--- `rows::edit_cell` meets its contract: `edit_map` leaves a record and its row, and what is accepted has the record put there. Assumes nothing.
-use Rattle.std.proofs.Common.{◌≡◌, ℕ, ◌^◌, ◌<◌, List, length, set, refl, sym, ◌∙◌, arith}
-use Rattle.std.specs.Prelude.{Float}
-use Rattle.refusals.specs.Outcome.{after}
+-- `rows::edit_cell` meets its contract: an edit that is not refused has its cell and its row in the map, and its record in the index. Assumes nothing.
+use Rattle.std.proofs.Common.{length, length-set, sym, arith}
+use Rattle.std.proofs.lemmas.Result.{err_from_is_err_and}
+use lib.Dec.{lit<}
 use Rattle.refusals.proofs.Cases.{after-refused}
-use Rattle.rows.specs.declared.RowRecord.{RowRecord}
-use Rattle.rows.specs.declared.Edit.{Edit}
-use Rattle.rows.specs.declared.Left.{Left}
-use Rattle.rows.specs.Index.{edit_refusal, cells_after, EditOutcome}
-use Rattle.rows.specs.Inner.{row_after}
-use Rattle.rows.proofs.Accepted.{edit-fits}
+use Rattle.refusals.proofs.Groups.{by_first}
+use Rattle.refusals.proofs.Numbers.{some}
+use Rattle.maps.specs.Map.{pixel_rows}
+use Rattle.rows.specs.Index.{index_rows}
+use Rattle.rows.proofs.Accepted.{EditFits, Placed, edit-tested, cell-there, row-there}
+use Rattle.rows.proofs.edit_cell.Goals.{In_ok-check_index}
 use Rattle.rows.proofs.edit_cell.Goals as goal
 
--- what `edit_map` says, and what comes of it
-module _ (w h : ℕ) (cells : List Float) (ys : List RowRecord) (e : Edit) where
-  abbrev refusal : ℕ
-  refusal = edit_refusal w h (length cells) (length ys) e
-
-  abbrev MapSays : Left → List Float → Type 0
-  MapSays r cells' = (r.answer ≡ refusal) × ((r.row ≡ after refusal e.y 0) × ((r.record ≡ row_after w h cells (length ys) e) × (cells' ≡ cells_after w h cells (length ys) e)))
-
-  module _ (r : Left) (cells' : List Float) (g : MapSays r cells') where
-    -- where the answer is 0 the row lies in the index, and its record is put there
-    module _ (z : r.answer ≡ 0) where
-      accepted : refusal ≡ 0
-      accepted = sym g.0 ∙ z
-
-      row_is : r.row ≡ e.y
-      row_is = g.1.0 ∙ rw accepted refl
-
-      row_in : r.row < length ys
-      row_in = let f = edit-fits w h (length cells) (length ys) e accepted in omega (arith, row_is, f.down, f.both.long)
-
-      row-few : r.row < 2 ^ 32
-      row-few = let f = edit-fits w h (length cells) (length ys) e accepted in omega (arith, row_is, f.down, f.both.size.low)
-
-      stored : EditOutcome r.answer w h e cells cells' ys (set ys r.row r.record)
-      unfolding row_after
-      stored = record { answer = g.0; map = g.1.1.1; records = rw row_is (rw g.1.1.0 (rw accepted refl)) }
-
-    -- where it is not the index is as it was
-    refused : (r.answer ≡ 0 → ⊥) → EditOutcome r.answer w h e cells cells' ys ys
-    refused other = record { answer = g.0; map = g.1.1.1; records = sym (after-refused refusal _ ys (λ z. other (g.0 ∙ z))) }
-
-pub offset_bounds-index-left : goal.offset_bounds-index-left
-offset_bounds-index-left c =
+pub returns-in_err-check_pixel : goal.returns-in_err-check_pixel
+returns-in_err-check_pixel c =
     let a = c.args in
-    omega (arith, row-few a.width a.height a.cells.now a.index.now a.edit _ _ c.edit_map-left.ensures c.if-left-eq0.true)
+    let p = err_from_is_err_and c.from_residual.result c.from_residual.ensures.1 in
+    let e = c.in_err-check_pixel.field-0.0 in
+    let first = by_first (pixel_rows a.width a.height (length a.cells.now) a.edit.x a.edit.y) (index_rows a.height (length a.index.now)) (lit< tt, (lit< tt, tt)) _ c.in_err-check_pixel.ensures (λ z. omega (arith, some e)) in
+    rw (p.1, p.2) (record { answer = first; map = sym (after-refused e _ _ first); records = sym (after-refused e _ _ first) })
 
-pub bounds-index-left : goal.bounds-index-left
-bounds-index-left c =
-    let a = c.args in
-    row_in a.width a.height a.cells.now a.index.now a.edit _ _ c.edit_map-left.ensures c.if-left-eq0.true
+fits : (c : In_ok-check_index) → let a = c.args in EditFits a.width a.height (length a.cells.now) (length a.index.now) a.edit
+fits c = edit-tested _ _ _ _ c.in_ok-check_index.ensures c.args.edit c.in_ok-check_pixel.ensures
 
-pub returns-then-left-eq0 : goal.returns-then-left-eq0
-returns-then-left-eq0 c =
-    let a = c.args in
-    stored a.width a.height a.cells.now a.index.now a.edit _ _ c.edit_map-left.ensures c.if-left-eq0.true
+place : (c : In_ok-check_index) → Placed c.args.width (length c.args.cells.now) c.args.edit
+place c = cell-there _ _ _ _ _ (fits c)
 
-pub returns-else-left-eq0 : goal.returns-else-left-eq0
-returns-else-left-eq0 c =
-    let a = c.args in
-    refused a.width a.height a.cells.now a.index.now a.edit _ _ c.edit_map-left.ensures c.if-left-eq0.false
+pub overflow_mul-cells : goal.overflow_mul-cells
+overflow_mul-cells c = let p = place (goal.at.overflow_mul-cells c).In_ok-check_index in record { fits = omega arith }
+
+pub overflow_add-cells : goal.overflow_add-cells
+overflow_add-cells c = let p = place (goal.at.overflow_add-cells c).In_ok-check_index in record { fits = omega arith }
+
+pub offset_bounds-cells-edit : goal.offset_bounds-cells-edit
+offset_bounds-cells-edit c = let p = place (goal.at.offset_bounds-cells-edit c).In_ok-check_index in record { fits = omega arith }
+
+pub bounds-cells-edit : goal.bounds-cells-edit
+bounds-cells-edit c = (place (goal.at.bounds-cells-edit c).In_ok-check_index).there
+
+pub row_record-requires : goal.row_record-requires
+row_record-requires c = rw length-set (row-there _ _ _ _ _ (fits (goal.at.row_record-requires c).In_ok-check_index))
+
+pub offset_bounds-index-edit : goal.offset_bounds-index-edit
+offset_bounds-index-edit c = let f = fits (goal.at.offset_bounds-index-edit c).In_ok-check_index in record { fits = omega (arith, f.down, f.both.size.low) }
+
+pub bounds-index-edit : goal.bounds-index-edit
+bounds-index-edit c = let f = fits (goal.at.bounds-index-edit c).In_ok-check_index in omega (arith, f.down, f.both.long)

@@ -1,49 +1,29 @@
--- `rows::fresh_index` meets its contract: the plan says how many records to write, and each turn writes one more. Assumes nothing.
-use Rattle.std.proofs.Common.{arith, ◌∙◌}
-use Rattle.rows.proofs.Writing.{Ready, Writing, ready, none_yet, kept, one_more, ended}
-use Rattle.rows.proofs.fresh_index.Goals.{After-fresh_plan-plan, At-loop-y}
+-- `rows::fresh_index` meets its contract: each turn writes one record more, and an index that is not refused has one for each row. Assumes nothing.
+use Rattle.std.proofs.Common.{length, arith, sym, ◌∙◌}
+use Rattle.refusals.proofs.Cases.{after_none}
+use Rattle.rows.proofs.Accepted.{Fits, fresh-none, fresh-tested}
+use Rattle.rows.proofs.Writing.{none_yet, one_more, row-there, all_written}
+use Rattle.rows.proofs.fresh_index.Goals.{In_ok-check_index}
 use Rattle.rows.proofs.fresh_index.Goals as goal
 
--- what is known of the records that the plan asks for
-planned : (c : After-fresh_plan-plan) → let a = c.args in Ready a.width a.height a.cells.now a.index.now c.fresh_plan-plan.result.rows
-planned c = let a = c.args in ready a.width a.height a.cells.now a.index.now _ c.fresh_plan-plan.ensures.1
-
--- the loop's state
-abbrev state : (c : At-loop-y) → let a = c.args in Writing a.width a.height a.cells.now a.index.now c.fresh_plan-plan.result.rows
-state c = record { y = c.loop-y.y; most = c.loop-y.invariant.most }
+fits : (c : In_ok-check_index) → let a = c.args in Fits a.map.width a.map.height (length a.map.cells.now) (length a.index.now)
+fits c = fresh-tested _ _ _ _ c.in_ok-check_index.ensures c.in_ok-check_size.ensures
 
 pub loop-y-init : goal.loop-y-init
-loop-y-init c = let a = c.args in record { most = omega arith; written = none_yet a.width a.height a.cells.now a.index.now }
+loop-y-init c = none_yet c.args.map.width c.args.map.cells.now c.args.index.now
 
-pub row_record-record-requires : goal.row_record-record-requires
-row_record-record-requires c = (planned (goal.at.row_record-record-requires c).After-fresh_plan-plan).there c.loop-y.y c.loop-y-test.true
-
-pub offset_bounds-index-y : goal.offset_bounds-index-y
-offset_bounds-index-y c = omega (arith, (planned (goal.at.offset_bounds-index-y c).After-fresh_plan-plan).few)
-
-pub bounds-index-y : goal.bounds-index-y
-bounds-index-y c =
-    let a = c.args in
-    let p = planned (goal.at.bounds-index-y c).After-fresh_plan-plan in
-    let long = kept a.width a.height a.cells.now a.index.now _ p (state (goal.at.bounds-index-y c).At-loop-y) in
-    rw c.loop-y.invariant.written (omega (arith, long, p.fits))
+pub row_record-requires : goal.row_record-requires
+row_record-requires c = row-there _ _ _ _ (fits (goal.at.row_record-requires c).In_ok-check_index) c.loop-y.y c.loop-y-test.true
 
 pub loop-y-preserved : goal.loop-y-preserved
 loop-y-preserved c =
     let a = c.args in
-    let p = planned (goal.at.loop-y-preserved c).After-fresh_plan-plan in
-    record {
-      most = omega arith;
-      written =
-          rw c.loop-y.invariant.written
-          (one_more a.width a.height a.cells.now a.index.now _ p (state (goal.at.loop-y-preserved c).At-loop-y) _ c.loop-y-test.true c.row_record-record.ensures);
-    }
+    rw c.loop-y.invariant (one_more a.map.width a.map.cells.now a.index.now c.loop-y.y c.row_record.result c.loop-y-test.true c.row_record.ensures)
 
 pub returns : goal.returns
 returns c =
     let a = c.args in
-    let p = planned (goal.at.returns c).After-fresh_plan-plan in
-    record {
-      answer = c.fresh_plan-plan.ensures.0;
-      records = c.loop-y.invariant.written ∙ ended a.width a.height a.cells.now a.index.now _ p (state (goal.at.returns c).At-loop-y) c.loop-y-test.false;
-    }
+    let f = fits (goal.at.returns c).In_ok-check_index in
+    let none = fresh-none a.map.width a.map.height (length a.map.cells.now) (length a.index.now) c.in_ok-check_index.ensures c.in_ok-check_size.ensures in
+    let all = all_written a.map.width a.map.cells.now a.index.now a.map.height f c.loop-y.y (omega arith) in
+    record { answer = sym none; records = c.loop-y.invariant ∙ all ∙ sym (after_none _ _ _ none) }

@@ -1,36 +1,21 @@
--- `windows::add_levels` meets its contract: the row's recurrence at the levels. Assumes nothing.
-use Prim.Native.Nat.{ℕ, ◌≤◌}
-use mathlib.Core.Path.{refl}
-use native.Mathlib.Omega.{arith}
+-- `windows::add_levels` meets its contract: all the row's cells but the last, and then that. Assumes nothing.
+use Rattle.std.proofs.Common.{rules, arith, length}
+use lib.Seq.{length-take-le}
+use Rattle.lists.proofs.Sums.{sum_to-bound}
 use Rattle.windows.specs.Table.{level_in}
-use Rattle.windows.proofs.Rows.{row-start, row_put, row-sum, row-again, row_done}
-use Rattle.windows.proofs.add_levels.Goals.{At-loop-x}
+use Rattle.windows.proofs.Rows.{row_last}
 use Rattle.windows.proofs.add_levels.Goals as goal
 
--- a level is at most 255
-small : (c : At-loop-x) (x : ℕ) → level_in c.args.levels.now x ≤ 65025
-small c x = omega (arith, c.type_inv.levels x)
-
-pub loop-x-init : goal.loop-x-init
-loop-x-init c = row-start _ _ _ c.requires (λ x. omega (arith, c.type_inv.levels x))
-
-pub put_below-requires : goal.put_below-requires
-put_below-requires c =
-    row_put _ _ _ c.requires (small (goal.at.put_below-requires c).At-loop-x) _ _ _ c.loop-x.invariant
-
-pub overflow_add-run : goal.overflow_add-run
-overflow_add-run c =
-    record { fits = row-sum _ _ _ c.requires (small (goal.at.overflow_add-run c).At-loop-x) _ _ _ c.loop-x.invariant _ c.wide-run.ensures }
-
-pub loop-x-preserved : goal.loop-x-preserved
-loop-x-preserved c =
-    row-again _ _ _ c.requires (small (goal.at.loop-x-preserved c).At-loop-x) _ _ _ c.loop-x.invariant
-    _ c.wide-run.result _ (omega arith) c.put_below.ensures c.wide-run.ensures refl
-
-pub put_below-requires-2 : goal.put_below-requires-2
-put_below-requires-2 c =
-    row_put _ _ _ c.requires (small (goal.at.put_below-requires-2 c).At-loop-x) _ _ _ c.loop-x.invariant
+pub overflow_add-below : goal.overflow_add-below
+overflow_add-below c =
+    let w = length c.args.levels.now in
+    let told = c.add_values-run.ensures (level_in c.args.levels.now) (λ i v l e. search rules) in
+    let total = rw (length-take-le w c.args.above.now (omega arith)) at told.0 in
+    omega (arith, total, c.requires.0.room w, sum_to-bound 255 w (level_in c.args.levels.now) (λ i _. omega (arith, c.type_inv.levels i)))
 
 pub returns : goal.returns
 returns c =
-    row_done _ _ _ c.requires (small (goal.at.returns c).At-loop-x) _ _ _ c.loop-x.invariant _ (omega arith) c.put_below-2.ensures
+    let w = length c.args.levels.now in
+    let told = c.add_values-run.ensures (level_in c.args.levels.now) (λ i v l e. search rules) in
+    row_last w _ c.args.above.now c.args.below.now _ _ c.requires.0.size c.requires.1 told.1
+    (rw (length-take-le w c.args.above.now (omega arith)) at told.0)

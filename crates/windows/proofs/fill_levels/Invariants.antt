@@ -1,11 +1,7 @@
--- `windows::fill_levels` meets its contract: the table's rows, one after the other. Assumes nothing.
-use Prim.Native.Nat.{◌-◌}
+-- `windows::fill_levels` meets its contract: the rows are those of the picture's levels. Assumes nothing.
 use Rattle.lists.specs.Rows.{level_at}
-use Rattle.windows.proofs.Tables.{TableInv}
+use Rattle.windows.specs.contracts.fn.fill_levels.add_row as closure
 use Rattle.windows.proofs.fill_levels.Given as goal
 
-abbrev pub invariant-loop-y : goal.invariant-loop-y
-invariant-loop-y l = TableInv l.w l.h (level_at l.w l.pic) l.initial.table l.table l.y
-
-abbrev pub decreases-loop-y : goal.decreases-loop-y
-decreases-loop-y l = l.h - l.y
+abbrev pub ghost-fill_rows : goal.ghost-fill_rows
+ghost-fill_rows a = level_at a.w (closure.captures a.add_row.now).pic.now

@@ -1,30 +1,38 @@
--- `choices::block::rival_part` meets its contract: after i numbers the two rows are rivalled by those alone; the numbers that are left fall. Assumes nothing.
-use Rattle.std.proofs.Common.{◌+◌, ◌^◌, sym, refl, ◌∙◌, arith, le→leb}
-use lib.Ieee.{in_float}
-use Rattle.choices.proofs.Parts.{rival-none, rival-more, rival-all}
+-- `choices::block::rival_part` meets its contract: after i numbers the row is rivalled by those alone. Assumes nothing.
+use Rattle.std.proofs.Common.{◌≡◌, ◌+◌, ℕ, get_or, set, ap, ◌∙◌}
+use lib.Ieee.{Float, nan, inf}
+use mathlib.Core.Bool.{true}
+use Rattle.choices.specs.Leading.{rivalled, rivalled_by}
+use Rattle.choices.proofs.Stepping.{step-none, step-all, step-read, step-set}
+use Rattle.choices.proofs.Parts.{rival-kept}
+use Rattle.choices.proofs.block.rival_part.Goals.{Start}
 use Rattle.choices.proofs.block.rival_part.Goals as goal
 
-pub int_to_float-low : goal.int_to_float-low
-unfolding in_float
-int_to_float-low c = le→leb c.index_before-low.result (2 ^ 24) (omega (arith, c.requires.k_lt_count_most, c.index_before-low.ensures))
+-- what the loop does to a column's competitor
+abbrev by : Start → ℕ → Float → Float
+by c x v = rivalled c.args.k (get_or c.args.at.now x nan) (get_or c.args.most.now x nan) v
 
-pub int_to_float-high : goal.int_to_float-high
-unfolding in_float
-int_to_float-high c = le→leb (c.args.k + 1) (2 ^ 24) (omega (arith, c.requires.k_lt_count_most))
+same : (c : Start) (x : ℕ) → by c x (inf true) ≡ get_or c.args.most.now x nan
+same c x = rival-kept c.args.k _ _
 
 pub loop-i-init : goal.loop-i-init
-loop-i-init c =
-    rival-none _ _ _ _ _ c.requires.work_len c.requires.part_bound _ refl
+unfolding rivalled_by
+loop-i-init c = let s = (goal.at.loop-i-init c).Start in step-none (by s) _ (same s) c.args.lo c.args.part.now c.requires.part_bound
 
 pub loop-i-preserved : goal.loop-i-preserved
+unfolding rivalled_by
 loop-i-preserved c =
-    let low = c.index_before-low.ensures in
-    rival-more _ _ _ _ _ c.requires.work_len c.requires.part_bound _ _ _ c.loop-i.invariant c.loop-i-test.true _
-    (c.pick.ensures ∙ rw (c.is_rival.ensures, low))
-
-pub shape_of-work : goal.shape_of-work
-shape_of-work c = c.loop-i.invariant.long ∙ sym c.requires.work_len
+    let s = (goal.at.loop-i-preserved c).Start in
+    let a = c.args in
+    let i = c.loop-i.i in
+    let more = c.loop-i-test.true in
+    let read : get_or c.loop-i.most (a.lo + i) nan ≡ get_or a.most.now (a.lo + i) nan =
+    ap (λ l. get_or l (a.lo + i) nan) c.loop-i.invariant ∙ step-read (by s) _ (same s) a.lo a.part.now c.requires.part_bound i more in
+    let low = c.saturating_sub-low.ensures in
+    ap (λ l. set l (a.lo + i) c.pick.result) c.loop-i.invariant
+    ∙ step-set (by s) _ (same s) a.lo a.part.now c.requires.part_bound i more _
+    (c.pick.ensures ∙ rw (c.is_rival.ensures, low) (ap (λ m. rivalled a.k (get_or a.at.now (a.lo + i) nan) m (get_or a.part.now i nan)) read))
 
 pub returns : goal.returns
-returns c =
-    rival-all _ _ _ _ _ c.requires.work_len c.requires.part_bound _ _ _ c.loop-i.invariant c.loop-i-test.false
+unfolding rivalled_by
+returns c = let s = (goal.at.returns c).Start in c.loop-i.invariant ∙ step-all (by s) _ (same s) c.args.lo c.args.part.now c.requires.part_bound _ c.loop-i-test.false

@@ -1,5 +1,5 @@
--- `choices::left_right::left_right` meets its contract. Assumes nothing.
-use Rattle.std.proofs.Common.{◌≡◌, ℕ, ◌-◌, ◌≤◌, List, ◌++◌, length, get_or, drop}
+-- `choices::left_right::left_right` meets its contract: before pixel p the first p cells are tested. Assumes nothing.
+use Rattle.std.proofs.Common.{◌≡◌, ℕ, List, ◌++◌, get_or, drop}
 use lib.Ieee.{Float, nan}
 use Rattle.choices.specs.LeftRight.{tested_cell}
 use Rattle.lists.specs.Lists.{list_of}
@@ -10,8 +10,4 @@ abbrev pub at-pixel : List Float → List Float → ℕ → Float → ℕ → Fl
 at-pixel left right w limit p = tested_cell w limit right p (get_or left p nan)
 
 abbrev pub invariant-loop-p : goal.invariant-loop-p
-invariant-loop-p l =
-    (l.p ≤ length l.initial.out) × (length l.out ≡ length l.initial.out) × (l.out ≡ list_of l.p (at-pixel l.initial.out l.right l.w l.limit) ++ drop l.p l.initial.out)
-
-abbrev pub decreases-loop-p : goal.decreases-loop-p
-decreases-loop-p l = length l.initial.out - l.p
+invariant-loop-p l = l.out ≡ list_of l.p (at-pixel l.initial.out l.fn.right l.w l.limit) ++ drop l.p l.initial.out

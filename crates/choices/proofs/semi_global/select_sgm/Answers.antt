@@ -1,5 +1,5 @@
--- `choices::semi_global::select_sgm` meets its contract: before pixel p the first p cells are the map's; the cells that are left fall. Assumes nothing.
-use Rattle.std.proofs.Common.{◌≡◌, ◌*◌, ◌<◌, length, sym, refl, ◌∙◌, arith, length-set, rules}
+-- `choices::semi_global::select_sgm` meets its contract: before pixel p the first p cells are the map's. Assumes nothing.
+use Rattle.std.proofs.Common.{◌≡◌, ◌*◌, ◌<◌, length, sym, refl, ◌∙◌, arith}
 use Rattle.choices.specs.SemiGlobal.{semi_map}
 use Rattle.lists.specs.Lists.{list_of}
 use Rattle.lists.proofs.Lists.{filled_next, filled-end, map-list_of}
@@ -7,24 +7,18 @@ use Rattle.choices.proofs.semi_global.select_sgm.Goals as goal
 
 pub loop-p-init : goal.loop-p-init
 unfolding list_of
-loop-p-init c = (search rules, refl, refl)
+loop-p-init c = refl
 
 pub loop-p-preserved : goal.loop-p-preserved
 loop-p-preserved c =
-    let inside : c.loop-p.p < length c.args.out.now = omega arith in (
-      omega arith,
-      simp length-set c.loop-p.invariant.1,
-      rw (c.loop-p.invariant.2, c.stored.ensures, c.semi_cell-cell.ensures) (filled_next _ _ _ _ inside refl),
-    )
-
-pub shape_of-out : goal.shape_of-out
-shape_of-out c = c.loop-p.invariant.1
+    let inside : c.loop-p.p < length c.args.out.now = omega arith in
+    rw (c.loop-p.invariant, c.from.ensures, c.semi_cell.ensures) (filled_next _ _ _ _ inside refl)
 
 pub returns : goal.returns
 unfolding semi_map
 returns c =
     let a = c.args in
     let past : c.loop-p.p ≡ a.w * a.h = omega arith in
-    c.loop-p.invariant.2
+    c.loop-p.invariant
     ∙ filled-end _ _ _ _ past c.requires.out_len
     ∙ sym (map-list_of _ _ _)

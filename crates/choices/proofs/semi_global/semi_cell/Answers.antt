@@ -1,21 +1,22 @@
--- `choices::semi_global::semi_cell` meets its contract: the test of the frame decides. Assumes nothing.
-use Rattle.choices.specs.SemiGlobal.{semi_cell}
-use Rattle.lists.proofs.Rows.{mul-pos-left, row_in}
+-- `choices::semi_global::semi_cell` meets its contract: the test of the frame decides, and the part that is lent has the pixel's sums. Assumes nothing.
+use Rattle.std.proofs.Common.{◌≡◌, ℕ, ◌+◌, ◌-◌, ◌*◌, ◌≤◌, List, length, take, drop, ◌∙◌, arith, length-drop, length-take-le, get_or-drop, get_or-take}
+use lib.Ieee.{Float, nan}
+use Rattle.lists.proofs.Lists.{list_of-same}
+use Rattle.lists.proofs.Rows.{row_in}
+use Rattle.choices.specs.SemiGlobal.{sums_of, semi_cell}
+use Rattle.choices.proofs.Own.{list_of-own}
 use Rattle.choices.proofs.semi_global.semi_cell.Goals as goal
 
-pub nonzero_rem-p : goal.nonzero_rem-p
-nonzero_rem-p c = mul-pos-left _ _ _ c.requires.p_bound
-
-pub nonzero_div-p : goal.nonzero_div-p
-nonzero_div-p c = mul-pos-left _ _ _ c.requires.p_bound
-
-pub choose_semi-requires-clause-count_in_bounds : goal.choose_semi-requires-clause-count_in_bounds
-choose_semi-requires-clause-count_in_bounds c = row_in _ _ _ _ c.requires.p_bound c.requires.count_in_bounds
+run-is : (sums : List Float) (count p : ℕ) → p * count + count ≤ length sums → take (p * count + count - p * count) (drop (p * count) sums) ≡ sums_of sums count p
+unfolding sums_of
+run-is sums count p l =
+    let long : p * count + count - p * count ≡ count = omega arith in
+    rw long
+    (list_of-own (take count (drop (p * count) sums)) count nan (length-take-le count _ (rw length-drop (omega arith)))
+    ∙ list_of-same count _ _ (λ k m. get_or-take count (drop (p * count) sums) k nan m ∙ get_or-drop (p * count) sums k nan))
 
 pub returns-then-is_inner : goal.returns-then-is_inner
 unfolding semi_cell
-returns-then-is_inner c = rw (← c.is_inner.ensures, c.if-is_inner.true, c.choose_semi.ensures)
-
-pub returns-else-is_inner : goal.returns-else-is_inner
-unfolding semi_cell
-returns-else-is_inner c = rw (← c.is_inner.ensures, c.if-is_inner.false)
+returns-then-is_inner c =
+    let a = c.args in
+    rw (← c.is_inner.ensures, c.if-is_inner.true, c.choice.ensures, run-is a.sums.now a.search.count a.p (row_in _ _ _ _ c.requires.p_bound c.requires.count_in_bounds))

@@ -9,13 +9,13 @@ use Rattle.costs.proofs.tables.root_bits.Goals as goal
 
 pub float_to_bits-result : goal.float_to_bits-result
 float_to_bits-result c =
-    subst (λ (x : Float). T (not (is_nan x))) (sym c.root_from.ensures)
-    (root-no-nan c.args.variance (omega arith) c.requires.0)
+    subst (λ (x : Float). T (not (is_nan x))) (sym c.root.ensures)
+    (root-no-nan c.args.variance (omega arith) c.requires)
 
 pub returns-then-variance-eq0 : goal.returns-then-variance-eq0
 returns-then-variance-eq0 c = rw c.if-variance-eq0.true (sym bits-of-zero)
 
 pub returns-else-variance-eq0 : goal.returns-else-variance-eq0
 returns-else-variance-eq0 c =
-    ap (to_bits binary64) c.root_from.ensures
-    ∙ sym (bits_are c.args.variance (omega arith) c.requires.0)
+    ap (to_bits binary64) c.root.ensures
+    ∙ sym (bits_are c.args.variance (omega arith) c.requires)

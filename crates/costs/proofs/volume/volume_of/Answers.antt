@@ -33,10 +33,10 @@ back-wide z = ap (λ (k : ℤ). to_z w64 (of_z w64 k)) (back-first z) ∙ to_z-o
 
 -- the planes that were made are the volume from the side that was asked for
 volume-is : (z : Start) (out : List Float)
-    → out ≡ planes_of z.args.side z.args.w z.args.h (z.args.opts.block_size / 2) (to_z w64 (of_z w64 (to_z w32 (of_z w32 z.args.opts.min_disparity)))) (nat_abs (to_z w32 (of_z w32 z.args.opts.num_disparities)))
-    (reference_of z.args.side z.args.left.now z.args.right.now) (target_of z.args.side z.args.left.now z.args.right.now)
-    → out ≡ raw_volume z.args.side z.args.w z.args.h (z.args.opts.block_size / 2) z.args.opts.min_disparity (nat_abs z.args.opts.num_disparities) z.args.left.now z.args.right.now
-volume-is z out made = rw (back-wide z, back_count z) at made ∙ planes-volume z.args.side _ _ _ _ _ z.args.left.now z.args.right.now
+    → out ≡ planes_of z.args.side z.args.pictures.w z.args.pictures.h (z.args.opts.block_size / 2) (to_z w64 (of_z w64 (to_z w32 (of_z w32 z.args.opts.min_disparity)))) (nat_abs (to_z w32 (of_z w32 z.args.opts.num_disparities)))
+    (reference_of z.args.side z.args.pictures.left.now z.args.pictures.right.now) (target_of z.args.side z.args.pictures.left.now z.args.pictures.right.now)
+    → out ≡ raw_volume z.args.side z.args.pictures.w z.args.pictures.h (z.args.opts.block_size / 2) z.args.opts.min_disparity (nat_abs z.args.opts.num_disparities) z.args.pictures.left.now z.args.pictures.right.now
+volume-is z out made = rw (back-wide z, back_count z) at made ∙ planes-volume z.args.side _ _ _ _ _ z.args.pictures.left.now z.args.pictures.right.now
 
 pub overflow_cast-plan : goal.overflow_cast-plan
 overflow_cast-plan c = rw (back-first (goal.at.overflow_cast-plan c).Start) (wide-first (goal.at.overflow_cast-plan c).Start)

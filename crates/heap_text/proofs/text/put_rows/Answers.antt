@@ -1,88 +1,57 @@
--- `heap_text::text::put_rows` meets its contract: at each turn the text of the rows passed stands. Assumes nothing.
-use Prim.Native.Nat.{ℕ, ◌≤◌, ◌+◌, ◌*◌, ◌-◌, zero-le}
-use mathlib.Core.Path.{◌≡◌, refl, sym, ap, ◌∙◌}
-use mathlib.Core.List.{List, [], ◌++◌, append-nil, append_assoc}
-use native.Mathlib.Omega.{arith}
-use native.Mathlib.Nat.{mul-zero, mul-suc, sub-zero, add-sub_cancel_left}
+-- `heap_text::text::put_rows` meets its contract: a turn puts one row more.
+use Rattle.std.proofs.Common.{◌≡◌, ℕ, ◌+◌, ◌*◌, ◌-◌, ◌≤◌, List, [], ◌++◌, length, suc, refl, sym, ap, ◌∙◌, append_assoc, append-nil, length-append, mul-zero, arith}
+use native.Mathlib.Nat.{mul-suc, sub-zero}
 use native.Mathlib.Numerals.{add-one}
-use lib.Ieee.{Float}
-use borrow.Author.Rules.{rules}
-use lib.ListN.{length, take, drop, length-append, length-take, length-drop}
 use Rattle.heap_text.specs.Text.{row_text, rows_text}
-use Rattle.lists.proofs.Stores.{wrote_then, wrote-length}
-use Rattle.heap_text.proofs.Rows.{row-length, rows_more, row_inside}
+use Rattle.texts.proofs.Pens.{writes_then, writes_length}
+use Rattle.heap_text.proofs.Rows.{row-length, row_inside}
 use Rattle.heap_text.proofs.text.put_rows.Goals.{In-loop-y}
 use Rattle.heap_text.proofs.text.put_rows.Goals as goal
 
 pub loop-y-init : goal.loop-y-init
 loop-y-init c =
-    let a = c.args in
-    (zero-le, sym (mul-zero a.w), ([], refl, ap (λ (k : ℕ). rows_text a.w k a.cells.now) (sub-zero a.h), record { bytes = refl; place = search rules }))
+    rw sub-zero
+    (c.requires.h_in_bounds, ([], sym (ap (λ (k : ℕ). 9 * k) (mul-zero c.args.w)), refl, record { same_slice = refl; wrote = record { bytes = refl; place = omega arith } }))
 
--- the row at hand lies within the cells
-inside : (c : In-loop-y) → c.loop-y.from + c.args.w ≤ length c.args.cells.now
-inside c =
-    let a = c.args in
-    omega (arith, row_inside a.w a.h c.loop-y.y c.loop-y-test.true)
+-- one row more is left
+left : (c : In-loop-y) → c.args.h - c.loop-y._y ≡ suc (c.args.h - (c.loop-y._y + 1))
+left c = omega arith
 
-inside-text : (c : In-loop-y) → c.args.at + (9 * c.loop-y.from + 9 * c.args.w) ≤ length c.loop-y.out
-inside-text c =
-    let a = c.args in
-    omega (arith, row_inside a.w a.h c.loop-y.y c.loop-y-test.true, wrote-length c.loop-y.invariant.2.3)
+inside : (c : In-loop-y) → c.args.w + c.args.w * (c.args.h - (c.loop-y._y + 1)) ≤ length c.loop-y.rest.now
+inside c = omega (arith, c.loop-y.invariant.0, ap (λ (k : ℕ). c.args.w * k) (left c), mul-suc c.args.w (c.args.h - (c.loop-y._y + 1)))
 
--- as long as the width
-row-size : (c : In-loop-y) → length (take (c.loop-y.from + c.args.w - c.loop-y.from) (drop c.loop-y.from c.args.cells.now)) ≡ c.args.w
-row-size c = simp (add-sub_cancel_left, length-take, length-drop) (omega (arith, inside c))
+pub split_at-requires : goal.split_at-requires
+split_at-requires c = omega (arith, inside c)
 
-pub overflow_add-from : goal.overflow_add-from
-overflow_add-from c = omega (arith, inside c)
-
-pub offset_bounds-cells-from : goal.offset_bounds-cells-from
-offset_bounds-cells-from c = omega (arith, inside c)
-
-pub slice_bounds-put_row-count : goal.slice_bounds-put_row-count
-slice_bounds-put_row-count c = omega (arith, inside c)
-
-pub slice_bounds-put_row-start : goal.slice_bounds-put_row-start
-slice_bounds-put_row-start c = omega (arith, inside c)
-
-pub slice_bounds-put_row-end : goal.slice_bounds-put_row-end
-slice_bounds-put_row-end c = omega (arith, inside c)
-
-pub put_row-next-requires : goal.put_row-next-requires
-put_row-next-requires c = rw (row-size (goal.at.put_row-next-requires c).In-loop-y) (omega (arith, inside-text (goal.at.put_row-next-requires c).In-loop-y, c.loop-y.invariant.2.1, c.loop-y.invariant.2.3.place))
-
-pub overflow_add-from-in-loop-y : goal.overflow_add-from-in-loop-y
-overflow_add-from-in-loop-y c = omega (arith, inside (goal.at.overflow_add-from-in-loop-y c).In-loop-y)
+pub put_row-requires : goal.put_row-requires
+put_row-requires c =
+    let p = c.loop-y.invariant.1 in
+    omega (arith, p.1, p.3.wrote.place, writes_length p.3, c.split_at.ensures.front_len, row_inside c.args.w c.args.h c.loop-y._y c.loop-y-test.true, c.requires.h_in_bounds_2)
 
 pub loop-y-preserved : goal.loop-y-preserved
 loop-y-preserved c =
+    let k = (goal.at.loop-y-preserved c).In-loop-y in
     let a = c.args in
-    let p = c.loop-y.invariant.2 in
-    let raw = take (c.loop-y.from + a.w - c.loop-y.from) (drop c.loop-y.from a.cells.now) in
-    let row : raw ≡ take a.w (drop c.loop-y.from a.cells.now) =
-    ap (λ (k : ℕ). take k (drop c.loop-y.from a.cells.now)) (add-sub_cancel_left c.loop-y.from a.w) in (
-      omega arith,
-      rw (add-one, mul-suc) (ap (λ (k : ℕ). k + a.w) c.loop-y.invariant.1),
+    let p = c.loop-y.invariant.1 in
+    let s = c.split_at.ensures in
+    let row = c.split_at.result.0.now in
+    let below = c.split_at.result.1.now in
+    let more = rows_text a.w (a.h - (c.loop-y._y + 1)) below in
+    let one : row_text row ++ more ≡ rows_text a.w (a.h - c.loop-y._y) c.loop-y.rest.now = rw (left k, s.front, s.back) in (
+      omega (arith, inside k, s.back_len),
       (
-        p.0 ++ row_text raw,
-        omega (arith, p.1, length-append p.0 (row_text raw), row-length raw, row-size (goal.at.loop-y-preserved c).In-loop-y),
-        append_assoc p.0 (row_text raw) (rows_text a.w (a.h - (c.loop-y.y + 1)) (drop (c.loop-y.from + a.w) a.cells.now))
-            ∙ ap (λ (r : List Float). p.0 ++ (row_text r ++ rows_text a.w (a.h - (c.loop-y.y + 1)) (drop (c.loop-y.from + a.w) a.cells.now))) row
-            ∙ ap (λ (r : List ℕ). p.0 ++ r) (rows_more a.w a.h c.loop-y.y c.loop-y.from a.cells.now c.loop-y-test.true)
-            ∙ p.2,
-        wrote_then p.3 c.put_row-next.ensures,
+        p.0 ++ row_text row,
+        rw (add-one, mul-suc) (omega (arith, p.1, length-append p.0 (row_text row), row-length row, s.front_len)),
+        append_assoc p.0 (row_text row) more ∙ ap (λ (r : List ℕ). p.0 ++ r) one ∙ p.2,
+        writes_then p.3 c.put_row.ensures,
       ),
     )
-
-pub shape_of-out : goal.shape_of-out
-shape_of-out c = wrote-length c.loop-y.invariant.2.3
 
 pub returns : goal.returns
 returns c =
     let a = c.args in
-    let p = c.loop-y.invariant.2 in
-    let none : a.h - c.loop-y.y ≡ 0 = omega arith in
+    let p = c.loop-y.invariant.1 in
+    let none : a.h - c.loop-y._y ≡ 0 = omega arith in
     let all : p.0 ≡ rows_text a.w a.h a.cells.now =
-    sym (append-nil p.0) ∙ ap (λ (k : ℕ). p.0 ++ rows_text a.w k (drop c.loop-y.from a.cells.now)) (sym none) ∙ p.2 in
+    sym (append-nil p.0) ∙ ap (λ (k : ℕ). p.0 ++ rows_text a.w k c.loop-y.rest.now) (sym none) ∙ p.2 in
     rw (← all) p.3

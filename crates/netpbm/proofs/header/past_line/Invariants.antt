@@ -1,12 +1,10 @@
 -- `netpbm::header::past_line` meets its contract: at each turn the comment goes on. Assumes nothing.
-use Prim.Native.Nat.{◌-◌, ◌≤◌}
-use mathlib.Core.Path.{◌≡◌}
-use lib.ListN.{length, drop}
+use Rattle.std.proofs.Common.{◌≡◌, ◌≤◌, length}
 use Rattle.netpbm.specs.Header.{after_comment}
 use Rattle.netpbm.proofs.header.past_line.Given as goal
 
-abbrev pub invariant-loop-i : goal.invariant-loop-i
-invariant-loop-i l = (after_comment (drop l.at l.s) ≡ after_comment (drop l.i l.s)) × (l.at ≤ l.i) × (l.i ≤ length l.s)
+abbrev pub invariant-loop-b : goal.invariant-loop-b
+invariant-loop-b l = (after_comment l.s ≡ after_comment l.rest) × (length l.rest ≤ length l.s)
 
-abbrev pub decreases-loop-i : goal.decreases-loop-i
-decreases-loop-i l = length l.s - l.i
+abbrev pub decreases-loop-b : goal.decreases-loop-b
+decreases-loop-b l = length l.rest

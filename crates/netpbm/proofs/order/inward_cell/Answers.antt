@@ -15,7 +15,7 @@ found : (c : Else-p-eq255) → finite (of_bits binary32 c.args.p) ≡ true
 found c = let p = c.args.p in pattern-finite p ∙ ap not (ne_eqb (p / 2 ^ 23 % 256) 255 c.if-p-eq255.false)
 
 pub returns-then-p-eq255 : goal.returns-then-p-eq255
-returns-then-p-eq255 c = let p = c.args.p in rw (pattern-finite p, eq-eqb (p / 2 ^ 23 % 256) 255 c.if-p-eq255.true) c.stored.ensures
+returns-then-p-eq255 c = let p = c.args.p in rw (pattern-finite p, eq-eqb (p / 2 ^ 23 % 256) 255 c.if-p-eq255.true) c.from.ensures
 
 pub float_from_bits-result : goal.float_from_bits-result
 float_from_bits-result c = rw (nan_bits_is binary32 c.args.p) (finite_number (of_bits binary32 c.args.p) (found c))

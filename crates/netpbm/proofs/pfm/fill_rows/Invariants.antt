@@ -4,6 +4,3 @@ use Rattle.netpbm.proofs.pfm.fill_rows.Given as goal
 
 abbrev pub invariant-loop-y : goal.invariant-loop-y
 invariant-loop-y l = FilledRows l.order l.width l.height l.s l.initial.out l.y l.from l.out
-
-abbrev pub decreases-loop-y : goal.decreases-loop-y
-decreases-loop-y l = l.y

@@ -1,33 +1,27 @@
 -- `netpbm::writing::put_row` meets its contract: at each turn the bytes of the cells passed stand. Assumes nothing.
-use Prim.Native.Nat.{zero-le}
-use mathlib.Core.Path.{refl}
-use native.Mathlib.Omega.{arith}
-use borrow.Author.Rules.{rules}
+use Rattle.std.proofs.Common.{zero-le, refl, arith}
 use lib.Ieee.{nan}
 use lib.Seq.{take_all}
-use Rattle.lists.proofs.Stores.{wrote_then, wrote-length}
+use Rattle.texts.proofs.Pens.{writes_then, writes_length}
 use Rattle.netpbm.specs.Pfm.{cells_bytes}
 use Rattle.netpbm.proofs.Rasters.{bytes-more, bytes-long}
 use Rattle.netpbm.proofs.writing.put_row.Goals as goal
 
-pub loop-i-init : goal.loop-i-init
+pub loop-x-init : goal.loop-x-init
 unfolding cells_bytes
-loop-i-init c = (zero-le, record { bytes = refl; place = search rules })
+loop-x-init c = (zero-le, record { same_slice = refl; wrote = record { bytes = refl; place = omega arith } })
 
-pub put_cell-next-requires : goal.put_cell-next-requires
-put_cell-next-requires c =
+pub put_cell-requires : goal.put_cell-requires
+put_cell-requires c =
     let a = c.args in
-    let i = c.loop-i.invariant in
-    omega (arith, i.1.place, wrote-length i.1, bytes-long a.order a.cells.now c.loop-i.i i.0)
+    let i = c.loop-x.invariant in
+    omega (arith, i.1.wrote.place, writes_length i.1, bytes-long a.order a.cells.now c.loop-x.x-index i.0)
 
-pub loop-i-preserved : goal.loop-i-preserved
-loop-i-preserved c =
+pub loop-x-preserved : goal.loop-x-preserved
+loop-x-preserved c =
     let a = c.args in
-    let more = bytes-more a.order a.cells.now c.loop-i.i nan c.loop-i-test.true in
-    (omega arith, rw more (wrote_then c.loop-i.invariant.1 c.put_cell-next.ensures))
-
-pub shape_of-out : goal.shape_of-out
-shape_of-out c = wrote-length c.loop-i.invariant.1
+    let more = bytes-more a.order a.cells.now c.loop-x.x-index nan c.loop-x-test.true in
+    (omega arith, rw more (writes_then c.loop-x.invariant.1 c.put_cell.ensures))
 
 pub returns : goal.returns
-returns c = rw (take_all _ _ c.loop-i-test.false) at c.loop-i.invariant.1
+returns c = rw (take_all _ _ c.loop-x-test.false) at c.loop-x.invariant.1

@@ -1,14 +1,9 @@
--- `paths::pixel::add_path` meets its contract: after k turns the first k cells of the run are made. Assumes nothing.
-use mathlib.Core.Path.{◌≡◌}
-use Prim.Native.Nat.{◌-◌, ◌≤◌}
-use lib.Seq.{paste}
-use lib.ListN.{length}
+-- `paths::pixel::add_path` meets its contract: after k turns the first k sums are made, and the others are as they were. Assumes nothing.
+use Rattle.std.proofs.Common.{◌≡◌, ◌≤◌, ℕ, get_or}
+use Rattle.std.specs.Float.{nan}
 use Rattle.paths.specs.Path.{add_vec}
-use Rattle.paths.specs.Room.{run}
+use Rattle.paths.proofs.Blocks.{Begun}
 use Rattle.paths.proofs.pixel.add_path.Given as goal
 
 abbrev pub invariant-loop-k : goal.invariant-loop-k
-invariant-loop-k l = (l.k ≤ l.count) × (length l.v ≡ length l.initial.v) × (l.v ≡ paste l.initial.v l.at (add_vec (run l.count l.at l.initial.v) (run l.count l.from l.initial.v)) l.k)
-
-abbrev pub decreases-loop-k : goal.decreases-loop-k
-decreases-loop-k l = l.count - l.k
+invariant-loop-k l = Begun (add_vec l.initial.sums l.path) l.sums l.k × ((i : ℕ) → l.k ≤ i → get_or l.sums i nan ≡ get_or l.initial.sums i nan)

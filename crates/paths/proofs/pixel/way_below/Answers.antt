@@ -1,17 +1,12 @@
 -- `paths::pixel::way_below` meets its contract. Assumes nothing.
-use mathlib.Core.Path.{sym, ◌∙◌}
 use native.Mathlib.Omega.{arith}
-use borrow.Author.Rules.{rules}
-use Rattle.paths.specs.Room.{run}
+use lib.Ieee.{of_bits}
 use Rattle.paths.proofs.Steps.{below_none, below-some}
 use Rattle.paths.proofs.pixel.way_below.Goals as goal
 
 pub returns-then-k-eq0 : goal.returns-then-k-eq0
-returns-then-k-eq0 c =
-    let a = c.args in
-    c.infinity.ensures ∙ sym (below_none a.p1 (run a.count a.prev a.v.now) a.k (search rules))
+unfolding of_bits
+returns-then-k-eq0 c = below_none c.args.p1 c.args.prev.now c.args.k c.if-k-eq0.true
 
-pub returns : goal.returns
-returns c =
-    let a = c.args in
-    sym (below-some a.p1 a.count a.prev a.v.now a.k (omega arith) (omega arith))
+pub returns-else-k-eq0 : goal.returns-else-k-eq0
+returns-else-k-eq0 c = below-some c.args.p1 c.args.prev.now c.args.k (omega arith)

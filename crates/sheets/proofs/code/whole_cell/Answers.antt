@@ -3,7 +3,7 @@ use Rattle.std.proofs.Common.{◌≡◌, ℕ, suc, ◌+◌, ◌*◌, ◌/◌, �
 use lib.Ieee.{binary32, of_int, in_float}
 use borrow.Author.Tests.{lt-leb, eqb-false}
 use Rattle.numbers.proofs.Patterns.{neg-round}
-use Rattle.sheets.specs.declared.code.Stored.TheVariants.{Cell}
+use Rattle.refusals.specs.Steps.{is}
 use Rattle.sheets.specs.Code.{unfolded, sheet_cell}
 use Rattle.sheets.proofs.code.whole_cell.Goals as goal
 
@@ -46,4 +46,4 @@ unfolding sheet_cell of_int
 returns c =
     let m = c.args.folded in
     rw (le-leb _ _ (near m _ c.if-folded.false), ne_eqb (m % 2) 0 c.if-folded-eq0.false, add-one)
-    (ap Cell (neg-round binary32 false (suc (m / 2)) 1))
+    (ap is (neg-round binary32 false (suc (m / 2)) 1))

@@ -1,28 +1,22 @@
 -- `sheets::reading::read_sheet` meets its contract. Assumes nothing.
-use Rattle.std.proofs.Common.{arith}
-use Rattle.sheets.proofs.Readings.{found-head, head-refused, head-sides, sides-fit, looked, read-refused, read-unfit, read-fine, read_done}
+use Rattle.std.proofs.Common.{sym, arith}
+use Rattle.std.proofs.lemmas.Result.{err_from_is_err_and}
+use Rattle.sheets.proofs.Readings.{head-sides, sides-fit, looked, read-refused, read-unfit, read-fine, read_done}
 use Rattle.sheets.proofs.reading.read_sheet.Goals as goal
 
-pub overflow_mul-width : goal.overflow_mul-width
-overflow_mul-width c =
-    let f = found-head _ _ _ c.check_sheet.ensures _ _ _ _ c.in-Head.is in
-    omega (arith, sides-fit _ _ (head-sides _ _ (looked _ _ f.0).taken))
+pub returns-in_err-size : goal.returns-in_err-size
+returns-in_err-size c =
+    let p = err_from_is_err_and c.from_residual.result c.from_residual.ensures.1 in
+    rw (p.1, p.2) (read-refused _ _ _ (sym c.in_err-size.ensures))
 
-pub returns-then-out-width : goal.returns-then-out-width
-returns-then-out-width c =
-    let f = found-head _ _ _ c.check_sheet.ensures _ _ _ _ c.in-Head.is in
-    read-unfit _ _ f.0 _ c.if-out-width.true
+pub overflow_mul-size : goal.overflow_mul-size
+overflow_mul-size c = omega (arith, sides-fit _ _ (head-sides _ _ (looked _ _ (sym c.in_ok-size.ensures)).taken))
+
+pub returns-then-out-size : goal.returns-then-out-size
+returns-then-out-size c = read-unfit _ _ (sym c.in_ok-size.ensures) _ c.if-out-size.true
 
 pub fill_cells-requires : goal.fill_cells-requires
-fill_cells-requires c =
-    let f = found-head _ _ _ c.check_sheet.ensures _ _ _ _ c.in-Head.is in
-    record { at_in_bounds = f.1; not_refused = read-fine _ _ f.0 c.args.out.now c.if-out-width.false }
+fill_cells-requires c = read-fine _ _ (sym c.in_ok-size.ensures) c.args.out.now c.if-out-size.false
 
-pub returns-in-Refused : goal.returns-in-Refused
-returns-in-Refused c =
-    read-refused _ _ _ (head-refused _ _ _ c.check_sheet.ensures _ c.in-Refused.is)
-
-pub returns-else-out-width : goal.returns-else-out-width
-returns-else-out-width c =
-    let f = found-head _ _ _ c.check_sheet.ensures _ _ _ _ c.in-Head.is in
-    read_done _ _ f.0 _ c.if-out-width.false _ c.fill_cells.ensures
+pub returns : goal.returns
+returns c = read_done _ _ (sym c.in_ok-size.ensures) _ c.if-out-size.false _ c.fill_cells.ensures

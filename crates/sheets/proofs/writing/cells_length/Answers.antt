@@ -1,34 +1,34 @@
 -- `sheets::writing::cells_length` meets its contract: at each turn the total counts the bytes of the cells passed. Assumes nothing.
 use Rattle.std.proofs.Common.{[], sym, refl, ap, ◌∙◌, arith, length-append}
+use Rattle.std.proofs.lemmas.Result.{err_from_is_err_and}
 use Rattle.sheets.specs.Number.{number_bytes}
+use Rattle.refusals.specs.Steps.{is}
 use Rattle.refusals.specs.Writes.{byte_count}
-use Rattle.refusals.specs.declared.Written.TheVariants as written
 use Rattle.sheets.proofs.Numbers.{number-most}
-use Rattle.sheets.proofs.Writings.{passed_none, passed-all, passed-more, passed-refused, code-number, code-refused, code-small}
+use Rattle.sheets.proofs.Writings.{passed_none, passed-all, passed-more, passed-refused}
 use Rattle.sheets.proofs.writing.cells_length.Goals as goal
 
-pub loop-i-init : goal.loop-i-init
-loop-i-init c = ([], passed_none _ _, refl)
+pub loop-x-init : goal.loop-x-init
+loop-x-init c = ([], passed_none _ _, refl)
 
 pub number_length-total-requires : goal.number_length-total-requires
-number_length-total-requires c = code-small _ c.code_of.ensures.small c.in-Number.is
+number_length-total-requires c = c.in_ok-code.ensures.small
 
 pub overflow_add-total : goal.overflow_add-total
-overflow_add-total c = omega (arith, number-most c.in-Number.n)
+overflow_add-total c = omega (arith, number-most c.in_ok-code.code)
 
-pub returns-in-Refused : goal.returns-in-Refused
-returns-in-Refused c =
-    let number = code-refused _ _ c.code_of.ensures.is c.in-Refused.is in
-    sym (ap byte_count (passed-refused _ _ _ _ c.loop-i.invariant.1 _ c.loop-i-test.true number))
+pub returns-in_err-code : goal.returns-in_err-code
+returns-in_err-code c =
+    let p = err_from_is_err_and c.from_residual.result c.from_residual.ensures.1 in
+    rw (p.1, p.2) (sym (ap byte_count (passed-refused _ _ _ _ c.loop-x.invariant.1 _ c.loop-x-test.true (sym c.in_err-code.ensures.is))))
 
-pub loop-i-preserved : goal.loop-i-preserved
-loop-i-preserved c =
-    let p = c.loop-i.invariant in
-    let number = code-number _ _ c.code_of.ensures.is c.in-Number.is in
-    let count = length-append p.0 (number_bytes c.in-Number.n) in
-    (_, passed-more _ _ _ _ p.1 _ c.loop-i-test.true number, omega arith)
+pub loop-x-preserved : goal.loop-x-preserved
+loop-x-preserved c =
+    let p = c.loop-x.invariant in
+    let count = length-append p.0 (number_bytes c.in_ok-code.code) in
+    (_, passed-more _ _ _ _ p.1 _ c.loop-x-test.true (sym c.in_ok-code.ensures.is), omega arith)
 
 pub returns : goal.returns
 returns c =
-    let p = c.loop-i.invariant in
-    sym (ap byte_count (passed-all _ _ _ _ p.1 c.loop-i-test.false) ∙ ap written.Bytes p.2)
+    let p = c.loop-x.invariant in
+    sym (ap byte_count (passed-all _ _ _ _ p.1 c.loop-x-test.false) ∙ ap is p.2)

@@ -1,19 +1,23 @@
 -- `sheets::writing::sheet_length` meets its contract. Assumes nothing.
 use Rattle.std.proofs.Common.{sym, ap, ◌∙◌}
+use Rattle.std.proofs.lemmas.Result.{err_from_is_err_and}
+use Rattle.maps.proofs.Facts.{size-tested}
 use Rattle.refusals.specs.Writes.{byte_count}
 use Rattle.sheets.proofs.Writings.{sheet-of, sheet-23, sheet-35}
 use Rattle.sheets.proofs.writing.sheet_length.Goals as goal
 
+pub returns-in_err-check_size : goal.returns-in_err-check_size
+returns-in_err-check_size c =
+    let p = err_from_is_err_and c.from_residual.result c.from_residual.ensures.1 in
+    rw (p.1, p.2) (sym (ap byte_count (sheet-23 c.args.kind _ _ _ _ c.in_err-check_size.ensures)))
+
+pub returns-in_err-kind : goal.returns-in_err-kind
+returns-in_err-kind c =
+    let p = err_from_is_err_and c.from_residual-in_err-kind.result c.from_residual-in_err-kind.ensures.1 in
+    rw (p.1, p.2) (sym (ap byte_count (sheet-35 _ _ _ _ c.in_ok-check_size.ensures _ c.in_err-kind.ensures)))
+
 pub kind_length-requires : goal.kind_length-requires
-kind_length-requires c = sym c.size_good.ensures ∙ c.if-size_good.true
+kind_length-requires c = size-tested _ _ _ (sym c.in_ok-check_size.ensures)
 
-pub returns-in-Kind : goal.returns-in-Kind
-returns-in-Kind c =
-    let sheet = sheet-of _ _ _ _ _ c.size_good.ensures c.if-size_good.true _ c.kind_of.ensures _ c.in-Kind.is in
-    c.kind_length.ensures ∙ sym (ap byte_count sheet)
-
-pub returns-in-Refused : goal.returns-in-Refused
-returns-in-Refused c = sym (ap byte_count (sheet-35 _ _ _ _ _ c.size_good.ensures c.if-size_good.true _ c.kind_of.ensures _ c.in-Refused.is))
-
-pub returns-else-size_good : goal.returns-else-size_good
-returns-else-size_good c = sym (ap byte_count (sheet-23 _ _ _ _ _ c.size_good.ensures c.if-size_good.false))
+pub returns : goal.returns
+returns c = c.kind_length.ensures ∙ sym (ap byte_count (sheet-of _ _ _ _ c.in_ok-check_size.ensures _ c.in_ok-kind.ensures))

@@ -1,21 +1,23 @@
 -- `sheets::writing::write_sheet` meets its contract. Assumes nothing.
-use Rattle.std.proofs.Common.{sym, ◌∙◌}
+use Rattle.std.proofs.Common.{sym}
+use Rattle.std.proofs.lemmas.Result.{err_from_is_err_and}
+use Rattle.maps.proofs.Facts.{size-tested}
 use Rattle.refusals.proofs.Writes.{done_refused}
 use Rattle.sheets.proofs.Writings.{sheet-of, sheet-23, sheet-35}
 use Rattle.sheets.proofs.writing.write_sheet.Goals as goal
 
+pub returns-in_err-check_size : goal.returns-in_err-check_size
+returns-in_err-check_size c =
+    let p = err_from_is_err_and c.from_residual.result c.from_residual.ensures.1 in
+    rw (p.1, p.2) (done_refused _ (sheet-23 c.args.kind _ _ _ _ c.in_err-check_size.ensures))
+
+pub returns-in_err-kind : goal.returns-in_err-kind
+returns-in_err-kind c =
+    let p = err_from_is_err_and c.from_residual-in_err-kind.result c.from_residual-in_err-kind.ensures.1 in
+    rw (p.1, p.2) (done_refused _ (sheet-35 _ _ _ _ c.in_ok-check_size.ensures _ c.in_err-kind.ensures))
+
 pub write_kind-requires : goal.write_kind-requires
-write_kind-requires c = sym c.size_good.ensures ∙ c.if-size_good.true
+write_kind-requires c = size-tested _ _ _ (sym c.in_ok-check_size.ensures)
 
-pub returns-in-Kind : goal.returns-in-Kind
-returns-in-Kind c =
-    let s = c.args in
-    let known = c.kind_of in
-    let sheet = sheet-of s.kind s.width s.height s.cells.now _ c.size_good.ensures c.if-size_good.true _ known.ensures _ c.in-Kind.is in
-    rw sheet c.write_kind.ensures
-
-pub returns-in-Refused : goal.returns-in-Refused
-returns-in-Refused c = done_refused _ (sheet-35 _ _ _ _ _ c.size_good.ensures c.if-size_good.true _ c.kind_of.ensures _ c.in-Refused.is)
-
-pub returns-else-size_good : goal.returns-else-size_good
-returns-else-size_good c = done_refused _ (sheet-23 _ _ _ _ _ c.size_good.ensures c.if-size_good.false)
+pub returns : goal.returns
+returns c = rw (sheet-of _ _ _ _ c.in_ok-check_size.ensures _ c.in_ok-kind.ensures) c.write_kind.ensures

@@ -1,10 +1,9 @@
--- `vendor::cost::row_products` meets its contract: after i turns `sum` is the sum of the first i products. Assumes nothing.
-use Prim.Native.Nat.{◌≤◌}
+-- `vendor::cost::row_products` meets its contract: `sum` is the sum of the products seen. Assumes nothing.
 use mathlib.Core.Path.{◌≡◌}
 use lib.ListN.{length}
 use Rattle.lists.specs.Sums.{sum_to}
 use Rattle.windows.specs.Parts.{product_in}
 use Rattle.vendor.proofs.cost.row_products.Given as goal
 
-abbrev pub invariant-loop-i : goal.invariant-loop-i
-invariant-loop-i l = (l.i ≤ length l.a) × (l.i-end ≡ length l.a) × (l.sum ≡ sum_to l.i (product_in l.a l.b))
+abbrev pub invariant-loop-x : goal.invariant-loop-x
+invariant-loop-x l = l.sum ≡ sum_to (length l.yielded) (product_in l.a l.b)

@@ -1,54 +1,37 @@
 -- `volume::grid::settle` meets its contract. Assumes nothing.
-use Prim.Native.Nat.{ℕ, ◌-◌}
-use mathlib.Core.Path.{◌≡◌, ap, ◌∙◌}
-use mathlib.Core.Bool.{cond}
+use Prim.Native.Nat.{ℕ, ◌+◌, ◌-◌}
+use mathlib.Core.Path.{◌≡◌, refl, sym, ap, ◌∙◌}
+use native.Mathlib.Nat.{add-zero}
 use native.Mathlib.Omega.{arith}
-use lib.Dec.{eqb}
+use borrow.Author.Tests.{eq-eqb, ne_eqb}
 use lib.ListN.{get_or}
-use Rattle.volume.proofs.Settling.{Small, height_under, empty_at, settling-none, settling-at, settling-more, settling-small, settling-done}
-use Rattle.volume.proofs.grid.settle.Goals.{After-empty_at-empty, After-height_under-under}
+use Rattle.volume.proofs.Settling.{height_under, empty_at, settling-none, settling-at, settling-more, settling-small, settling-done}
+use Rattle.volume.proofs.grid.settle.Goals.{then-cell-eq0, else-cell-eq0}
 use Rattle.volume.proofs.grid.settle.Goals as goal
 
-pub loop-i-init : goal.loop-i-init
-loop-i-init c = settling-none c.args.grid.now
-
-pub offset_bounds-grid-i : goal.offset_bounds-grid-i
-offset_bounds-grid-i c = omega (arith, c.loop-i.invariant.long)
-
-pub bounds-grid-i : goal.bounds-grid-i
-bounds-grid-i c = omega (arith, c.loop-i.invariant.long)
-
-level-is : (c : After-height_under-under) → get_or c.loop-i.grid c.loop-i.i 0 ≡ get_or c.args.grid.now c.loop-i.i 0
-level-is c = settling-at _ _ _ _ _ c.loop-i.invariant
-
-under-is : (c : After-height_under-under) → c.height_under-under.result ≡ height_under c.args.grid.now c.loop-i.i
-under-is c = c.height_under-under.ensures ∙ ap (λ (v : ℕ). v - 1) (level-is c)
-
-small : (c : After-height_under-under) → Small c.args.grid.now c.loop-i.height c.loop-i.empty c.loop-i.i
-small c = settling-small _ c.requires.1 c.requires.0 _ _ _ _ c.loop-i.invariant
-
-empty-is : (c : After-empty_at-empty) → c.empty_at-empty.result ≡ empty_at c.args.grid.now c.loop-i.i
-empty-is c = c.empty_at-empty.ensures ∙ ap (λ (v : ℕ). cond (eqb v 0) 1 0) (level-is (goal.at.After-empty_at-empty c).After-height_under-under)
-
-pub offset_bounds-grid-i-in-loop-i : goal.offset_bounds-grid-i-in-loop-i
-offset_bounds-grid-i-in-loop-i c = omega (arith, c.loop-i.invariant.long)
-
-pub bounds-grid-i-in-loop-i : goal.bounds-grid-i-in-loop-i
-bounds-grid-i-in-loop-i c = omega (arith, c.loop-i.invariant.long)
-
-pub overflow_add-height : goal.overflow_add-height
-overflow_add-height c = omega (arith, under-is c, (small c).heights)
+pub loop-cell-init : goal.loop-cell-init
+loop-cell-init c = settling-none c.args.grid.now
 
 pub overflow_add-empty : goal.overflow_add-empty
-overflow_add-empty c = omega (arith, empty-is c, (small (goal.at.overflow_add-empty c).After-height_under-under).empties)
+overflow_add-empty c =
+    let small = settling-small _ c.requires.low c.requires.few _ _ _ _ c.loop-cell.invariant in
+    record { fits = omega (arith, small.empties) }
 
-pub loop-i-preserved : goal.loop-i-preserved
-loop-i-preserved c =
-    let at = c.loop-i in
-    settling-more _ at.grid at.height at.empty at.i _ _ at.invariant (omega arith) (under-is (goal.at.loop-i-preserved c).After-height_under-under) (empty-is c)
+pub overflow_add-height : goal.overflow_add-height
+overflow_add-height c =
+    let at = c.loop-cell.invariant in
+    let small = settling-small _ c.requires.low c.requires.few _ _ _ _ at in
+    record { fits = omega (arith, c.saturating_sub.ensures, settling-at _ _ _ _ _ at, small.heights) }
 
-pub shape_of-grid : goal.shape_of-grid
-shape_of-grid c = c.loop-i.invariant.long
+pub loop-cell-preserved : goal.loop-cell-preserved
+loop-cell-preserved c =
+    let at = c.loop-cell in
+    let levels = c.args.grid.now in
+    let level : get_or at.grid at.cell-index 0 ≡ get_or levels at.cell-index 0 = settling-at _ _ _ _ _ at.invariant in
+    let under : c.saturating_sub.result ≡ height_under levels at.cell-index = c.saturating_sub.ensures ∙ ap (λ (v : ℕ). v - 1) level in
+    let empties : c.if-cell-eq0.empty ≡ at.empty + empty_at levels at.cell-index =
+    elim c.if-cell-eq0.branch [ then-cell-eq0 w ↦ rw (eq-eqb (get_or levels at.cell-index 0) 0 (sym level ∙ w.if-cell-eq0.true)) w.empty-is | else-cell-eq0 w ↦ rw (ne_eqb (get_or levels at.cell-index 0) 0 (λ e. w.if-cell-eq0.false (level ∙ e))) (w.empty-is ∙ sym (add-zero at.empty)) ] in
+    rw empties (settling-more levels at.grid at.height at.empty at.cell-index _ _ at.invariant (omega arith) under refl)
 
-pub returns : goal.returns
-returns c = settling-done _ _ _ _ _ c.loop-i.invariant (omega arith)
+pub returns-clause-heights : goal.returns-clause-heights
+returns-clause-heights c = (settling-done _ _ _ _ _ c.loop-cell.invariant (omega arith)).1.1

@@ -1,40 +1,44 @@
 -- `volume::heap::heap_volume` meets its contract: the rows, and then the figures and the heights. Assumes nothing.
-use mathlib.Core.Path.{◌≡◌, sym, ap, ◌∙◌, subst}
+use mathlib.Core.Path.{sym, ap, ◌∙◌}
 use lib.ListN.{length}
-use Rattle.refusals.specs.Answered.{first_of}
-use Rattle.refusals.proofs.Cases.{answer-refused, after-refused}
-use Rattle.volume.specs.declared.heap.Heap.TheVariants as heap
-use Rattle.volume.specs.Outcome.{heap_rows, heap_of, grid_after}
-use Rattle.volume.specs.Inner.{SiteFits}
+use Rattle.refusals.specs.Steps.{is}
+use Rattle.refusals.proofs.Cases.{answer-made, answer-refused, after_none, after-refused}
+use Rattle.std.proofs.lemmas.Result.{err_from_is_err_and}
+use Rattle.volume.specs.Metres.{spots_of}
+use Rattle.volume.specs.Rectangle.{cells_of}
+use Rattle.volume.specs.Heights.{figures_of, grid_of}
+use Rattle.volume.specs.Outcome.{heap_of, grid_after}
 use Rattle.volume.proofs.Refusing.{HeapFits, heap-fits}
-use Rattle.volume.proofs.heap.heap_volume.Goals.{Else-refused-ne0}
+use Rattle.volume.proofs.heap.heap_volume.Goals.{In_ok-plan}
 use Rattle.volume.proofs.heap.heap_volume.Goals as goal
 
-none : (c : Else-refused-ne0) → let a = c.args in first_of (heap_rows a.site a.xs.now a.ys.now a.zs.now (length a.grid.now)) ≡ 0
-none c = sym c.heap_refusal-refused.ensures ∙ c.if-refused-ne0.false
+fits : (c : In_ok-plan) → let a = c.args in HeapFits a.site a.xs.now a.ys.now a.zs.now (length a.grid.now)
+fits c = let a = c.args in heap-fits a.site a.xs.now a.ys.now a.zs.now (length a.grid.now) (sym c.in_ok-plan.ensures.number)
 
-fits : (c : Else-refused-ne0) → let a = c.args in HeapFits a.site a.xs.now a.ys.now a.zs.now (length a.grid.now)
-fits c = let a = c.args in heap-fits a.site a.xs.now a.ys.now a.zs.now (length a.grid.now) (none c)
-
-pub returns-then-refused-ne0 : goal.returns-then-refused-ne0
+pub returns-in_err-plan : goal.returns-in_err-plan
 unfolding heap_of grid_after
-returns-then-refused-ne0 c = record {
-  answer = answer-refused heap.Refused _ c.heap_refusal-refused.ensures c.if-refused-ne0.true;
-  grids = sym (after-refused _ _ _ (λ e. c.if-refused-ne0.true (c.heap_refusal-refused.ensures ∙ e)));
-}
+returns-in_err-plan c =
+    let p = err_from_is_err_and c.from_residual.result c.from_residual.ensures.1 in
+    let e = c.in_err-plan.field-0.0 in
+    rw (p.1, p.2) record {
+      answer = answer-refused e _ c.in_err-plan.ensures.number;
+      grids = sym (after-refused e _ _ c.in_err-plan.ensures.number);
+    }
 
-pub columns_of-requires : goal.columns_of-requires
-columns_of-requires c =
-    let fit = (fits (goal.at.columns_of-requires c).Else-refused-ne0).fit in
-    record { site_value = fit.cell; site_value_2 = fit.near }
+pub measure-requires-clause-good : goal.measure-requires-clause-good
+measure-requires-clause-good c = (fits (goal.at.measure-requires-clause-good c).In_ok-plan).good
 
-pub measure-requires : goal.measure-requires
-measure-requires c =
-    let f = fits (goal.at.measure-requires c).Else-refused-ne0 in
-    (subst (SiteFits _) (sym c.columns_of.ensures) f.fit, (f.good, f.long))
+pub measure-requires-clause-long : goal.measure-requires-clause-long
+measure-requires-clause-long c =
+    (fits (goal.at.measure-requires-clause-long c).In_ok-plan).long ∙ sym (ap cells_of c.in_ok-plan.ensures.plan)
 
 pub returns : goal.returns
 unfolding heap_of grid_after
 returns c =
-    let zero = none (goal.at.returns c).Else-refused-ne0 in
-    record { answer = rw zero (ap heap.Measured c.measure.ensures.0); grids = rw zero c.measure.ensures.1 }
+    let a = c.args in
+    let of-site = c.in_ok-plan.ensures.plan in
+    let ps = spots_of a.xs.now a.ys.now a.zs.now in
+    record {
+      answer = ap is (c.measure.ensures.figures ∙ ap (λ s. figures_of s ps) of-site) ∙ answer-made _ c.in_ok-plan.ensures.number;
+      grids = c.measure.ensures.heights ∙ ap (λ s. grid_of s ps) of-site ∙ sym (after_none _ _ _ (sym c.in_ok-plan.ensures.number));
+    }

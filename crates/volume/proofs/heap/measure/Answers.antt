@@ -4,43 +4,31 @@ use mathlib.Core.Path.{◌≡◌, ap, ◌∙◌}
 use mathlib.Core.Bool.{true, cond}
 use mathlib.Core.List.{List, map}
 use native.Mathlib.Omega.{arith}
-use borrow.Author.Tests.{leb-true}
-use lib.Dec.{leb, eqb}
+use lib.Dec.{eqb}
 use lib.Ieee.{Float}
-use lib.ListN.{length, get_or, replicate}
+use lib.ListN.{length, get_or}
 use Rattle.lists.specs.Sums.{sum_to}
-use Rattle.lists.proofs.Tests.{and_both}
 use Rattle.volume.specs.declared.site.Site.{Site}
 use Rattle.volume.specs.declared.heap.Figures.{Figures}
 use Rattle.volume.specs.Metres.{good_points, spots_of}
-use Rattle.volume.specs.Rectangle.{good_cell, cells_most}
 use Rattle.volume.specs.Heights.{inside_count, outside_count, empty_count, volume_of, figures_of}
 use Rattle.volume.specs.Inner.{SiteFits, levels_of, LevelsFit}
 use Rattle.volume.proofs.Counts.{counts-given}
 use Rattle.volume.proofs.Largest.{heights-most, volume-most}
-use Rattle.volume.proofs.Lowered.{levels-length, levels-fit, levels-lowered, heights-sum, empties-sum}
+use Rattle.volume.proofs.Lowered.{levels-fit, levels-lowered, heights-sum, empties-sum}
 use Rattle.volume.proofs.heap.measure.Goals.{After-drop_points-inside}
 use Rattle.volume.proofs.heap.measure.Goals as goal
 
--- the side of a cell
-cell-most : (s : Site) → good_cell s ≡ true → s.cell ≤ 10000
-unfolding good_cell
-cell-most s e = leb-true s.cell 10000 (and_both (leb 10 s.cell) (leb s.cell 10000) e).1
-
 -- the grid is filled: the levels are those of the points, and so many points lie inside
-record Filled (s : Site) (columns : ℕ) (xs ys zs : List Float) (levels : List ℕ) (inside : ℕ) : Type 0 where
-  fit : SiteFits s columns
+record Filled (s : Site) (xs ys zs : List Float) (levels : List ℕ) (inside : ℕ) : Type 0 where
+  fit : SiteFits s
   good : good_points xs ys zs ≡ true
   counted : inside ≡ inside_count s (spots_of xs ys zs)
   are : levels ≡ levels_of s (spots_of xs ys zs)
 
-module _ {s : Site} {columns : ℕ} {xs ys zs : List Float} {levels : List ℕ} {inside : ℕ} (f : Filled s columns xs ys zs levels inside) where
-  levels-good : (length levels ≤ cells_most) × LevelsFit levels
-  levels-good =
-      rw f.are (
-        omega (arith, levels-length s (spots_of xs ys zs), f.fit.few),
-        levels-fit s (spots_of xs ys zs) (heights-most s f.fit.near xs ys zs f.good),
-      )
+module _ {s : Site} {xs ys zs : List Float} {levels : List ℕ} {inside : ℕ} (f : Filled s xs ys zs levels inside) where
+  levels-low : LevelsFit levels
+  levels-low = rw f.are (levels-fit s (spots_of xs ys zs) (heights-most s f.fit.near xs ys zs f.good))
 
   inside-most : inside ≤ length xs
   inside-most = omega (arith, counts-given s xs ys zs f.good, f.counted)
@@ -62,33 +50,26 @@ module _ {s : Site} {columns : ℕ} {xs ys zs : List Float} {levels : List ℕ} 
         cc (volume-is, f.counted)
 
 filled : (c : After-drop_points-inside)
-    → Filled c.args.site c.args.columns c.args.xs.now c.args.ys.now c.args.zs.now
+    → Filled c.args.plan.site c.args.points.xs.now c.args.points.ys.now c.args.points.zs.now
     c.drop_points-inside.new.grid c.drop_points-inside.result
-filled c = record { fit = c.requires.0; good = c.requires.1.0; counted = c.drop_points-inside.ensures.0; are = c.drop_points-inside.ensures.1 }
+filled c = record { fit = c.args.plan.fits; good = c.requires.good; counted = c.drop_points-inside.ensures.inside; are = c.drop_points-inside.ensures.levels }
 
-pub drop_points-inside-requires : goal.drop_points-inside-requires
-drop_points-inside-requires c =
-    (c.requires.0, (c.requires.1.0, c.clear_u64.ensures ∙ ap (λ n. replicate n 0) c.requires.1.1))
-
-pub settle-totals-requires : goal.settle-totals-requires
-settle-totals-requires c = levels-good (filled (goal.at.settle-totals-requires c).After-drop_points-inside)
-
-pub cell_area-area-requires : goal.cell_area-area-requires
-cell_area-area-requires c =
-    cell-most c.args.site c.requires.0.cell
+pub settle-totals-requires-clause-low : goal.settle-totals-requires-clause-low
+settle-totals-requires-clause-low c = levels-low (filled (goal.at.settle-totals-requires-clause-low c).After-drop_points-inside)
 
 pub overflow_mul-result : goal.overflow_mul-result
 overflow_mul-result c =
-    rw c.cell_area-area.ensures
-    record { fits = volume-fits (filled (goal.at.overflow_mul-result c).After-drop_points-inside) c.settle-totals.result.height c.settle-totals.ensures.0 }
+    rw c.cell_area.ensures
+    record { fits = volume-fits (filled (goal.at.overflow_mul-result c).After-drop_points-inside) c.settle-totals.result.height c.settle-totals.ensures.height }
 
 pub overflow_sub-result : goal.overflow_sub-result
 overflow_sub-result c = inside-most (filled (goal.at.overflow_sub-result c).After-drop_points-inside)
 
-pub returns : goal.returns
-returns c =
-    let at = c.args in
-    rw c.cell_area-area.ensures (
-      figures-are (filled (goal.at.returns c).After-drop_points-inside) c.settle-totals.result.height c.settle-totals.ensures.0 c.settle-totals.result.empty c.settle-totals.ensures.1.0,
-      c.settle-totals.ensures.1.1 ∙ ap (map (λ v. v - 1)) (filled (goal.at.returns c).After-drop_points-inside).are ∙ levels-lowered at.site (spots_of at.xs.now at.ys.now at.zs.now),
-    )
+pub returns-clause-figures : goal.returns-clause-figures
+returns-clause-figures c =
+    rw c.cell_area.ensures (figures-are (filled (goal.at.returns-clause-figures c).After-drop_points-inside) c.settle-totals.result.height c.settle-totals.ensures.height c.settle-totals.result.empty c.settle-totals.ensures.empty)
+
+pub returns-clause-heights : goal.returns-clause-heights
+returns-clause-heights c =
+    let a = c.args in
+    c.settle-totals.ensures.heights ∙ ap (map (λ v. v - 1)) (filled (goal.at.returns-clause-heights c).After-drop_points-inside).are ∙ levels-lowered a.plan.site (spots_of a.points.xs.now a.points.ys.now a.points.zs.now)

@@ -1,45 +1,16 @@
--- `volume::metres::all_good` meets its contract: at each turn all are good where those from here on are. Assumes nothing.
-use Prim.Native.Nat.{ℕ, ◌+◌, ◌≤◌, ◌<◌}
-use native.Mathlib.Nat.{le_antisymm}
-use native.Mathlib.Numerals.{add-one}
-use native.Mathlib.Omega.{arith}
-use mathlib.Core.Path.{◌≡◌, refl, sym, ◌∙◌}
-use mathlib.Core.Bool.{true, false, ◌&&◌}
-use mathlib.Core.List.{List}
-use lib.ListN.{length, get_or, drop}
-use lib.Seq.{drop-cons, drop-length}
-use lib.Ieee.{Float}
+-- `volume::metres::all_good` meets its contract. Assumes nothing.
+use mathlib.Core.Path.{refl, ◌∙◌}
+use mathlib.Core.Bool.{◌&&◌}
+use Rattle.std.proofs.Common.{rules, tests}
+use Rattle.std.specs.List.{list_all}
+use Rattle.std.proofs.lemmas.Iterator.{YieldsList-from_slice}
+use Rattle.std.proofs.lemmas.Iterator.Search.{all_from_yields_List}
+use Rattle.std.proofs.lemmas.List.Recursion.{same_from_clauses}
 use Rattle.volume.specs.Metres.{good_coordinate, all_good}
 use Rattle.volume.proofs.metres.all_good.Goals as goal
 
-module _ (xs : List Float) (i : ℕ) where
-  from-here : (d : Float) → i < length xs → all_good (drop i xs) ≡ good_coordinate (get_or xs i d) && all_good (drop (i + 1) xs)
-  unfolding all_good
-  from-here d below = rw (drop-cons xs i d, add-one)
-
-  -- the next is not good
-  passed-bad : (d : Float) → i < length xs → good_coordinate (get_or xs i d) ≡ false → all_good (drop i xs) ≡ all_good xs → all_good xs ≡ false
-  passed-bad d below bad so_far = sym so_far ∙ from-here d below ∙ rw bad
-
-  -- the next is good
-  passed-good : (d : Float) → i < length xs → good_coordinate (get_or xs i d) ≡ true → all_good (drop i xs) ≡ all_good xs → all_good (drop (i + 1) xs) ≡ all_good xs
-  passed-good d below good so_far = rw (from-here d below, good) at so_far
-
-  -- there is no next
-  passed-all : i ≤ length xs → length xs ≤ i → all_good (drop i xs) ≡ all_good xs → all_good xs ≡ true
-  unfolding all_good
-  passed-all within past so_far = sym so_far ∙ rw (le_antisymm within past, drop-length)
-
-pub loop-i-init : goal.loop-i-init
-loop-i-init c = (omega arith, refl)
-
-pub returns-then-not-is_good : goal.returns-then-not-is_good
-returns-then-not-is_good c =
-    sym (passed-bad _ _ _ c.loop-i-test.true (sym c.is_good.ensures ∙ c.if-not-is_good.true) c.loop-i.invariant.1)
-
-pub loop-i-preserved : goal.loop-i-preserved
-loop-i-preserved c =
-    (omega arith, passed-good _ _ _ c.loop-i-test.true (sym c.is_good.ensures ∙ c.if-not-is_good.false) c.loop-i.invariant.1)
-
 pub returns : goal.returns
-returns c = sym (passed-all _ _ c.loop-i.invariant.0 c.loop-i-test.false c.loop-i.invariant.1)
+unfolding all_good
+returns c =
+    all_from_yields_List good_coordinate _ _ _ c.all.ensures.ran (YieldsList-from_slice c.args.xs.now cc) (λ x b q k. search (rules, tests))
+    ∙ same_from_clauses (list_all good_coordinate) all_good (λ x t. good_coordinate x && t) refl (λ _ _. refl) (λ _ _. refl) c.args.xs.now

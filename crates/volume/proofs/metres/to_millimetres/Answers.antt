@@ -16,9 +16,9 @@ float_to_int-result c =
     rw c.round_half_away_wide-whole.ensures
     (rounded-casts c.args.x c.requires (rw c.round_half_away_wide-whole.ensures at c.if-whole.false))
 
-pub returns : goal.returns
+pub returns-else-whole : goal.returns-else-whole
 unfolding of_bits
-returns c =
+returns-else-whole c =
     let x = c.args.x in
     let is : to_signed 63 c.round_half_away_wide-whole.result ≡ millimetres x = unfold millimetres in ap (to_signed 63) c.round_half_away_wide-whole.ensures in
     rw is (millimetres-back x)

@@ -1,7 +1,0 @@
--- `heap_text::text::write_bad_input` meets its contract. Assumes nothing.
-use native.Mathlib.Omega.{arith}
-use Rattle.lists.proofs.Stores.{printed}
-use Rattle.heap_text.proofs.text.write_bad_input.Goals as goal
-
-pub returns : goal.returns
-returns c = printed (omega arith) c.put_bytes.ensures

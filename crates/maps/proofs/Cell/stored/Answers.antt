@@ -1,7 +1,0 @@
--- `maps::Cell::stored` meets its contract: 0 / 0 is a NaN. Assumes nothing.
-use lib.Ieee.{div, of_bits}
-use Rattle.maps.proofs.Cell.stored.Goals as goal
-
-pub returns-in-Mark : goal.returns-in-Mark
-unfolding div of_bits
-returns-in-Mark c = rw c.in-Mark.is
