@@ -9,6 +9,7 @@ ghost use Rattle.matching.specs.Inner.{MatchRoom, MapMade, SideRoom};
 
 use crate::Match;
 use choices::left_right::left_right;
+use lists::copy_cells;
 use options::Side;
 
 impl Match<'_> {
@@ -21,7 +22,7 @@ impl Match<'_> {
         ensures wholes { whole.new ≡ cleared 0 (5 * cells self.entry.pictures.w self.entry.pictures.h) whole.old }
     {
         self.solve_direction(Side::Right, out, whole, work);
-        map.copy_from_slice(out);
+        copy_cells(map, out);
         self.turn_direction(out, work);
         left_right(
             out,

@@ -7,6 +7,7 @@ ghost use Rattle.netpbm.specs.Inner.{pgm_read, held_pgm, PictureAs};
 
 use crate::header::{read_spaced, read_white, read_word};
 use crate::raster::{Size, judge_size};
+use lists::copy_cells;
 use refusals::Refusal;
 
 // The largest level, which is the only maximum that is read.
@@ -70,6 +71,6 @@ pub fn read_pgm(s: &[u8], out: &mut [u8]) -> Result<Size, Refusal>
     if out.len() != size.width * size.height {
         return Err(Refusal::FileOutput);
     }
-    out.copy_from_slice(levels);
+    copy_cells(out, levels);
     Ok(size)
 }

@@ -6,6 +6,7 @@ ghost use Rattle.paths.specs.Room.{put};
 ghost use Rattle.paths.specs.Walk.{step_back, previous_of, path_cells, slot_of, slot_in, slot_path, SlotReady, path_volume, is_forward, UnitStep, Direction, pixels_in, cells_in, HaveCells};
 
 use crate::pixel::{add_path, path_step};
+use lists::copy_cells;
 
 // What a path depends on: the picture's size, the disparity count, the columns and rows a step, and the penalties. That the step
 // is a direction stands in clauses and no ghost field, since the specification makes walks of any two numbers.
@@ -94,7 +95,7 @@ impl Walk {
         let cost = &costs[here..here + count];
         match self.previous(x, y) {
             Some(slot) => path_step(paths, slot * count, at, cost, self.p1, self.p2),
-            None => paths[at..at + count].copy_from_slice(cost),
+            None => copy_cells(&mut paths[at..at + count], cost),
         }
         add_path(&mut sums[here..here + count], &paths[at..at + count]);
     }
@@ -107,6 +108,10 @@ impl Walk {
         requires bounded { Bounded self.p1 self.p2 costs.now }
         ensures { sums.new ≡ add_vec sums.old (path_volume self costs.now) }
     {
+        // Without columns there are no pixels, however many rows there are said to be.
+        if self.w == 0 {
+            return;
+        }
         let forward = self.is_forward();
         for j in 0..self.h {
             for i in 0..self.w {

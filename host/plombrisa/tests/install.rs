@@ -129,6 +129,15 @@ fn the_shared_library_shows_the_header_and_nothing_else() {
     assert!(dynamic_section(&library, "TEXTREL").is_empty(), "the code would have to be changed where it is loaded");
 }
 
+/// A host without a C library has to supply `memset`, and nothing else.
+#[test]
+fn the_proved_archive_needs_memset_alone() {
+    let archive = repository().join("target/staticlib/libplombrisa.a");
+    let told = printed(C.tool("nm").arg("-u").arg(&archive));
+    let needed: BTreeSet<&str> = told.lines().filter_map(|line| line.trim_start().strip_prefix("U ")).collect();
+    assert_eq!(needed, BTreeSet::from(["memset"]));
+}
+
 /// While a package is made the files stand below DESTDIR, and no file says so.
 #[test]
 fn a_package_is_staged() {

@@ -27,4 +27,4 @@ turn_direction-requires c =
 pub returns-clause-made : goal.returns-clause-made
 returns-clause-made c =
     c.left_right.ensures
-    ∙ rw (c.turn_direction.ensures _ _ (kept (goal.at.returns-clause-made c).After-solve_direction), c.copy_from_slice.ensures.after, c.solve_direction.ensures.map)
+    ∙ rw (c.turn_direction.ensures _ _ (kept (goal.at.returns-clause-made c).After-solve_direction), c.copy_cells.ensures, c.solve_direction.ensures.map)

@@ -1,17 +1,34 @@
 -- `paths::direction::Walk::add_paths` meets its contract: before the visit of turn i of line j the pixels of the turns before are done. Assumes nothing.
 use Prim.Native.Nat.{ℕ, ◌+◌, ◌-◌, ◌*◌}
-use mathlib.Core.Path.{◌≡◌, ap, ap₂, ◌∙◌}
+use mathlib.Core.Path.{◌≡◌, refl, ap, ap₂, ◌∙◌}
 use mathlib.Core.Bool.{cond}
-use native.Mathlib.Nat.{mul_comm}
+use mathlib.Core.List.{List, [], ◌∷◌}
+use native.Mathlib.Nat.{mul_comm, zero-mul}
 use native.Mathlib.Omega.{arith}
 use borrow.Author.Rules.{rules}
+use lib.Ieee.{Float}
+use lib.ListN.{length}
+use Rattle.lists.specs.Lists.{list_of}
 use Rattle.lists.proofs.Rows.{pixel-in}
+use Rattle.paths.specs.Path.{add_vec}
 use Rattle.paths.specs.Walk.{is_forward, pixels_in}
 use Rattle.paths.proofs.Places.{turn-pixel}
 use Rattle.paths.proofs.Walks.{visited-more, all-summed}
 use Rattle.paths.proofs.Ready.{visit-ready}
 use Rattle.paths.proofs.direction.Walk.add_paths.Goals.{After-visited-y}
 use Rattle.paths.proofs.direction.Walk.add_paths.Goals as goal
+
+-- without columns there are no sums
+no-sums : (sums paths : List Float) → length sums ≡ 0 → sums ≡ add_vec sums paths
+unfolding add_vec list_of
+no-sums [] paths h = refl
+no-sums (s ∷ sums) paths h = absurd (omega arith)
+
+pub returns-then-self-eq0 : goal.returns-then-self-eq0
+returns-then-self-eq0 c =
+    let k = c.args.self in
+    let none : k.w * k.h * k.count ≡ 0 = rw (c.if-self-eq0.true, zero-mul, zero-mul) refl in
+    no-sums _ _ (c.requires.lengths.2 ∙ none)
 
 -- the pixel of a turn
 abbrev pixel : After-visited-y → ℕ

@@ -47,7 +47,7 @@ stored c =
           c.match-previous.paths (w.paths-is ∙ w.path_step.ensures)
       | in-None w ↦
           visit-start a.self a.x a.y c.requires.inside.0 c.requires.inside.1 w.in-None.ensures a.paths.now a.costs.now c.requires.lengths.0 c.slot_of.result c.slot_of.ensures
-          _ w.copy_from_slice.ensures.after c.match-previous.paths w.paths-is
+          _ w.copy_cells.ensures c.match-previous.paths w.paths-is
     ]
 
 pub returns-clause-sum : goal.returns-clause-sum
