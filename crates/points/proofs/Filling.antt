@@ -1,6 +1,7 @@
 -- The list while it is filled: the records of the cells seen so far, and beyond them what was there. Assumes nothing.
 use Rattle.std.proofs.Common.{◌≡◌, ℕ, zero, suc, Bool, ◌+◌, ◌*◌, ◌≤◌, ◌<◌, true, false, cond, List, [], ◌∷◌, ◌++◌, length, get_or, take, drop, set, add-zero, refl, sym, ap, ◌∙◌, arith, append_assoc, drop-cons, add-one, zero-add, append-nil, ltb-false, lit<}
-use Rattle.std.proofs.lemmas.List.Sums.{count_by_more_yes, count_by_more_no, sum_by-take-le}
+use Rattle.std.proofs.lemmas.List.{take-append-drop, nil_from_length}
+use Rattle.std.proofs.lemmas.List.Sums.{count_by_more_yes, count_by_more_no, sum_by-take-le, sum_by-take-drop}
 use borrow.Author.Tests.{not-false}
 use lib.Seq.{take-suc, take-length, set_at, length-take-le}
 use lib.Ieee.{Float, nan}
@@ -104,6 +105,15 @@ module _ (w : ℕ) (k : Intrinsics) (cells : List Float) (list : List PointRecor
             done =
                 rw (f.done, drop-cons list n p (omega (arith, within, room)), set_at (seen i) (get_or list n p) (drop (suc n) list) p n l, e, add-one, append_assoc) refl;
           }
+
+  -- no cell behind the last point has a record
+  pub ends-early : (n i : ℕ) (now : List PointRecord) → n ≡ points_in cells → Filling n i now → now ≡ records_from w k 0 cells ++ drop (points_in cells) list
+  ends-early n i now e f =
+      let rest = records_from w k (0 + length (take i cells)) (drop i cells) in
+      let left : points_in (drop i cells) ≡ 0 = omega (arith, sum_by-take-drop (λ x. cond (is_positive x) 1 0) cells i, f.counted, e) in
+      let none : rest ≡ [] = nil_from_length rest (records-length w k (0 + length (take i cells)) (drop i cells) ∙ left) in
+      let all : records_from w k 0 cells ≡ seen i = ap (records_from w k 0) (sym (take-append-drop i cells)) ∙ records-append w k 0 (take i cells) (drop i cells) ∙ ap (λ (l : List PointRecord). seen i ++ l) none ∙ append-nil (seen i) in
+      f.done ∙ rw (all, e) refl
 
   -- all cells are seen
   pub ends : (n i : ℕ) (now : List PointRecord) → length cells ≡ i → Filling n i now → now ≡ records_from w k 0 cells ++ drop (points_in cells) list

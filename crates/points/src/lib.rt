@@ -8,6 +8,7 @@ ghost use Rattle.points.specs.Point.{is_positive, point_at, point_of, good_camer
 ghost use Rattle.points.specs.Records.{points_in, point_record, filled_for, PointsOutcome};
 
 use maps::{MapView, size_good};
+use numbers::plain::is_finite;
 use refusals::Refusal;
 
 // The camera's numbers and the baseline.
@@ -51,14 +52,20 @@ fn is_positive(x: f64) -> bool
 fn is_point(c: f32) -> bool
     ensures { result ≡ is_positive c }
 {
-    is_positive(f64::from(c))
+    is_finite(c) && 0.0 < c
 }
 
-// How many cells give a point.
+// How many cells give a point. A loop, since a filtered count takes three times as long.
 fn points_in(cells: &[f32]) -> usize
     ensures { result ≡ points_in cells.now }
 {
-    cells.iter().filter(|c| is_point(**c)).count()
+    let mut n: usize = 0;
+    for c in cells {
+        if is_point(*c) {
+            n += 1;
+        }
+    }
+    n
 }
 
 impl Intrinsics {
@@ -151,9 +158,12 @@ pub fn points(list: &mut [PointRecord], map: MapView, camera: Intrinsics) -> Res
 {
     let count = records_asked(list.len(), map, camera)?;
 
-    // By index, since a proof knows nothing of what an adapter of `iter_mut` wrote.
+    // By index, since a proof knows nothing of what an adapter of `iter_mut` wrote. Behind the last point no cell is read.
     let mut n: usize = 0;
     for (i, c) in map.cells.iter().enumerate() {
+        if n == count {
+            break;
+        }
         if is_point(*c) {
             list[n] = camera.point_record(map.width, i, *c);
             n += 1;

@@ -4,7 +4,7 @@ use Rattle.std.proofs.lemmas.Result.{err_from_is_err_and}
 use Rattle.refusals.proofs.Cases.{after_none}
 use Rattle.points.specs.Records.{list_after}
 use Rattle.points.proofs.Refusing.{list-left}
-use Rattle.points.proofs.Filling.{Asked, asked, begins, within, writes, skips, ends}
+use Rattle.points.proofs.Filling.{Asked, asked, begins, within, writes, skips, ends, ends-early}
 use Rattle.points.proofs.points.Goals.{In_ok-count, Then-is_point, then-is_point, else-is_point}
 use Rattle.points.proofs.points.Goals as goal
 
@@ -49,8 +49,15 @@ loop-i-preserved c =
       | else-is_point w ↦ rw (w.list-is, w.n-is) (skips _ _ _ _ _ c.loop-i-test.true _ _ (sym w.if-is_point.ensures) c.loop-i.invariant)
     ]
 
-pub returns : goal.returns
+-- behind the last point no cell has a record
+pub returns-then-n-count : goal.returns-then-n-count
 unfolding list_after
-returns c =
-    let a = asked-for (goal.at.returns c).In_ok-count in
+returns-then-n-count c =
+    let a = asked-for (goal.at.returns-then-n-count c).In_ok-count in
+    record { answer = c.in_ok-count.ensures; lists = ends-early _ _ _ _ _ _ _ (c.if-n-count.true ∙ a.counted) c.loop-i.invariant ∙ sym (after_none _ _ _ a.none) }
+
+pub returns-after-loop-i : goal.returns-after-loop-i
+unfolding list_after
+returns-after-loop-i c =
+    let a = asked-for (goal.at.returns-after-loop-i c).In_ok-count in
     record { answer = c.in_ok-count.ensures; lists = ends _ _ _ _ _ _ _ (omega arith) c.loop-i.invariant ∙ sym (after_none _ _ _ a.none) }
