@@ -1,5 +1,6 @@
 -- The laws of a number's bytes. Assumes nothing.
-use Rattle.std.proofs.Common.{◌≡◌, ℕ, zero, suc, ◌+◌, ◌-◌, ◌*◌, ◌/◌, ◌%◌, ◌^◌, ◌<◌, ◌≤◌, Bool, true, false, cond, ltb, List, [], ◌∷◌, ◌++◌, length, sym, refl, ap, ◌∙◌, append_assoc, pow-suc, arith, length-append, ltb-false, ltb-true, le-ltb, lt-ltb}
+use Rattle.std.proofs.Common.{◌≡◌, ℕ, zero, suc, ◌+◌, ◌-◌, ◌*◌, ◌/◌, ◌%◌, ◌^◌, ◌<◌, ◌≤◌, Bool, true, false, cond, ◌&&◌, eqb, ltb, List, [], ◌∷◌, ◌++◌, length, sym, refl, ap, ◌∙◌, append_assoc, mul-le-mul_right, pow-suc, add-one, arith, length-append, ltb-false, ltb-true, le-ltb, lt-ltb, ne_eqb}
+use native.Mathlib.Nat.{pow-le-pow_right}
 use Rattle.refusals.specs.Steps.{Or, is, refused, Taken}
 use Rattle.sheets.specs.Number.{groups, number_bytes, above, take_groups, take_number, AllBytes}
 use Rattle.refusals.proofs.Stepwise.{not-refused}
@@ -77,7 +78,7 @@ left-last {n} {rest} {done} l h = l.bytes ∙ rw (groups-last l.more rest h)
 pub left-some : {n rest : ℕ} {done : List ℕ} → Left n done rest → length done < length (number_bytes n)
 left-some {n} {rest} {done} l = omega (arith, ap length l.bytes, length-append done (groups l.more rest), groups-some l.more rest l.small)
 
--- ---- a number that is being read, group by group
+-- ---- a number that is being read: what the groups passed give, and how many more may follow
 
 -- the number at the front of some bytes where it may have at most `most` groups
 abbrev take_most : ℕ → List ℕ → Or Taken
@@ -93,6 +94,92 @@ take_next : (most b : ℕ) (s : List ℕ) → 128 ≤ b → take_groups most (b 
 unfolding take_groups
 take_next zero b s h = rw (le-ltb b 128 h)
 take_next (suc more) b s h = rw (le-ltb b 128 h)
+
+-- the groups that stand, and what follows them: i groups, which give `value` in front of groups of `unit`, and what was read after them
+abbrev joined : ℕ → ℕ → ℕ → Or Taken → Or Taken
+joined i value unit (refused n) = refused n
+joined i value unit (is t) = cond (ltb 0 i && eqb t.number 0) (refused 34) (is (record { number = value + t.number * unit; rest = t.rest }))
+
+take_none : (most : ℕ) → take_most most [] ≡ refused 34
+unfolding take_groups
+take_none zero = refl
+take_none (suc zero) = refl
+take_none (suc (suc more)) = refl
+
+and-false : (t : Bool) → (t && false) ≡ false
+and-false true = refl
+and-false false = refl
+
+joined-none : (t : Or Taken) → t ≡ joined 0 0 1 t
+joined-none (refused n) = refl
+joined-none (is t) = ap (λ (n : ℕ). is (record { number = n; rest = t.rest })) (omega arith)
+
+joined-above : (i value unit low : ℕ) (t : Or Taken) → joined i value unit (above low t) ≡ joined (i + 1) (value + low * unit) (unit * 128) t
+joined-above i value unit low (refused n) = refl
+joined-above i value unit low (is t) = go t.number
+  where
+    go : (n : ℕ)
+        → joined i value unit (cond (ltb 0 n) (is (record { number = low + 128 * n; rest = t.rest })) (refused 34))
+        ≡ cond (ltb 0 (i + 1) && eqb n 0) (refused 34) (is (record { number = value + low * unit + n * (unit * 128); rest = t.rest }))
+    go zero = rw (lt-ltb 0 (i + 1) (omega arith))
+    go (suc n) =
+        let same : value + (low + 128 * suc n) * unit ≡ value + low * unit + suc n * (unit * 128) = omega arith in
+        rw (lt-ltb 0 (suc n) (omega arith), ne_eqb (low + 128 * suc n) 0 (λ e. omega arith), ne_eqb (suc n) 0 (λ e. omega arith), and-false (ltb 0 i), and-false (ltb 0 (i + 1)), same)
+
+-- what stands after i groups of the number at the front of s, where `rest` is left
+pub record Read (s rest : List ℕ) (value unit i : ℕ) : Type 0 where
+  pub more : ℕ
+  pub count : i + more ≡ 5
+  pub power : unit ≡ 128 ^ i
+  pub below : value < unit
+  pub number : take_number s ≡ joined i value unit (take_most more rest)
+
+pub read_none : (s : List ℕ) → Read s s 0 1 0
+unfolding take_number
+read_none s = record { more = 5; count = refl; power = refl; below = omega arith; number = joined-none (take_groups 4 s) }
+
+module _ {s rest : List ℕ} {value unit i : ℕ} (r : Read s rest value unit i) where
+  -- the bytes end, or five groups are passed
+  pub read-cut : length rest ≡ 0 → take_number s ≡ refused 34
+  read-cut h = go rest h r.number
+    where
+      go : (l : List ℕ) → length l ≡ 0 → take_number s ≡ joined i value unit (take_most r.more l) → take_number s ≡ refused 34
+      go [] h e = e ∙ rw (take_none r.more)
+      go (b ∷ l) h e = absurd (omega arith)
+
+  pub read-over : 5 ≤ i → take_number s ≡ refused 34
+  read-over h = let none : r.more ≡ 0 = omega (arith, r.count) in r.number ∙ rw none
+
+  -- the sums fit
+  unit-most : i < 5 → unit ≤ 2 ^ 28
+  unit-most h = let four : i ≤ 4 = omega arith in omega (arith, r.power, pow-le-pow_right {n = 128} (omega arith) {i = i} {j = 4} four)
+
+  group-below : (low : ℕ) → low < 128 → value + low * unit < unit * 128
+  group-below low h = omega (arith, r.below, mul-le-mul_right {m = low} {n = 127} unit (omega arith))
+
+  pub read_fits : i < 5 → (low : ℕ) → low < 128 → (value + low * unit < 2 ^ 35) × (unit * 128 ≤ 2 ^ 35)
+  read_fits h low l = (omega (arith, unit-most h, group-below low l), omega (arith, unit-most h))
+
+  -- one group more, where the bytes are not at their end
+  module _ (h : i < 5) {b : ℕ} {after : List ℕ} (front : rest ≡ b ∷ after) where
+    one_more : take_number s ≡ joined i value unit (take_groups (4 - i) (b ∷ after))
+    one_more =
+        let some : r.more ≡ suc (4 - i) = omega (arith, r.count) in
+        r.number ∙ rw (front, some)
+
+    pub read-last : b < 128 → take_number s ≡ joined i value unit (is (record { number = b; rest = after }))
+    read-last l = one_more ∙ rw (take_last (4 - i) b after l)
+
+    pub read_next : 128 ≤ b → b < 256 → Read s after (value + (b - 128) * unit) (unit * 128) (i + 1)
+    read_next l small = record {
+      more = 4 - i;
+      count = omega arith;
+      power = rw (add-one, pow-suc, r.power);
+      below = group-below (b - 128) (omega arith);
+      number = one_more ∙ rw (take_next (4 - i) b after l) (joined-above i value unit (b - 128) (take_most (4 - i) after));
+    }
+
+-- ---- a number that is taken group by group
 
 -- where the bytes end there is none
 pub cut-short : (more : ℕ) (s : List ℕ) → length s ≡ 0 → refused 34 ≡ take_groups more s
@@ -183,7 +270,7 @@ from-group most b s t all after e = go (ltb b 128) refl
     go false small = let h = ltb-false b 128 small in above_from h (take_most most s) refl (sym (take_next most b s h) ∙ e)
 
 groups-from : (more : ℕ) (s : List ℕ) (t : Taken) → AllBytes s → take_groups more s ≡ is t → From more s t
-groups-from more [] t all e = not-refused (sym e ∙ sym (cut-short more [] refl))
+groups-from more [] t all e = not-refused (sym e ∙ take_none (suc more))
 groups-from zero (b ∷ s) t all e = from-group zero b s t all (λ u q. not-refused (sym q)) e
 groups-from (suc more) (b ∷ s) t all e = from-group (suc more) b s t all (λ u. groups-from more s u all.1) e
 

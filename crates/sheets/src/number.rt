@@ -1,11 +1,14 @@
 // A number as bytes: groups of seven bits, low group first, the high bit set on all but the last group. There is one writer and one
 // reader of a number; every field and every cell goes through them.
-ghost use Rattle.std.specs.Prelude.{◌≡◌, ◌+◌, ◌^◌, ◌<◌, ◌≤◌, length, IfOk};
+ghost use Rattle.std.specs.Prelude.{◌≡◌, ◌+◌, ◌^◌, ◌<◌, ◌≤◌, ◌&&◌, length, ◌==◌, nat_lt};
 ghost use Rattle.lists.specs.Stores.{Wrote};
-ghost use Rattle.sheets.specs.Number.{number_bytes, take_groups, take_number};
+ghost use Rattle.sheets.specs.Number.{number_bytes, take_number};
 ghost use Rattle.sheets.specs.Inner.{number_read};
 
 use refusals::Refusal;
+
+// The most groups that a number has.
+const GROUPS_MOST: usize = 5;
 
 // How many bytes a number takes. Here and below the groups are divided off one by one: there is no slice to go over.
 pub fn number_length(n: u64) -> usize
@@ -38,35 +41,43 @@ pub fn put_number(n: u64, out: &mut [u8], at: usize) -> usize
     next + 1
 }
 
-// The number at the front where `more` groups may follow the first, and the bytes after it.
-fn read_groups(s: &[u8], more: usize) -> Result<(u64, &[u8]), Refusal>
-    requires { more ≤ 4 }
-    ensures value { number_read result ≡ take_groups more s.now }
-    ensures bound { IfOk result (λ p. p.0 < 128 ^ (more + 1)) }
+// A byte as a number; the second clause is for the loop below, which knows no bound of the bytes that are left.
+fn group_of(b: u8) -> u64
+    ensures is { result ≡ b }
+    ensures small { result < 256 }
 {
-    let Some((b, rest)) = s.split_first() else {
-        return Err(Refusal::NumberUnfit);
-    };
-    let low = u64::from(*b);
-    if low < 128 {
-        return Ok((low, rest));
-    }
-    if more == 0 {
-        return Err(Refusal::NumberUnfit);
-    }
-    let (high, rest) = read_groups(rest, more - 1)?;
-    // a last group of 0 only makes the number longer
-    if high == 0 {
-        return Err(Refusal::NumberUnfit);
-    }
-    Ok((low - 128 + 128 * high, rest))
+    u64::from(b)
+}
+
+// Whether a last group only makes the number longer: a 0 behind `before` other groups.
+fn is_padding(group: u64, before: usize) -> bool
+    ensures { result ≡ nat_lt 0 before && (group == 0) }
+{
+    0 < before && group == 0
 }
 
 // The number at the front, and the bytes after it: refused where it is cut, has a last group of 0 behind others, or goes on after five
-// groups.
-#[tactic(auto, unfolding(crate::specs::Number::take_number))]
+// groups. A loop, since a function that calls itself for each further group takes twice as long.
 pub fn read_number(s: &[u8]) -> Result<(u64, &[u8]), Refusal>
     ensures { number_read result ≡ take_number s.now }
 {
-    read_groups(s, 4)
+    let mut value: u64 = 0;
+    let mut unit: u64 = 1;
+    let mut rest = s;
+    for before in 0..GROUPS_MOST {
+        let Some((b, after)) = rest.split_first() else {
+            return Err(Refusal::NumberUnfit);
+        };
+        let group = group_of(*b);
+        if group < 128 {
+            if is_padding(group, before) {
+                return Err(Refusal::NumberUnfit);
+            }
+            return Ok((value + group * unit, after));
+        }
+        value += (group - 128) * unit;
+        unit *= 128;
+        rest = after;
+    }
+    Err(Refusal::NumberUnfit)
 }
