@@ -1,9 +1,10 @@
--- What a loop has passed that looks for the first, and what it asks. Assumes nothing.
-use Prim.Native.Nat.{ℕ, ◌+◌, ◌/◌, ◌%◌, ◌<◌, ◌≤◌}
-use mathlib.Core.Path.{◌≡◌, refl, sym, subst}
+-- How the cells are asked: the pixels by rows, what a loop has passed that looks for the first, and what it asks. Assumes nothing.
+use Prim.Native.Nat.{ℕ, ◌+◌, ◌*◌, ◌/◌, ◌%◌, ◌<◌, ◌≤◌}
+use mathlib.Core.Path.{◌≡◌, refl, sym, ap, ◌∙◌, subst}
 use mathlib.Core.Bool.{Bool, true, false, not, ◌||◌}
 use mathlib.Core.List.{List}
-use native.Mathlib.Nat.{le_refl}
+use native.Mathlib.Nat.{le_refl, not-suc-le-zero, mod-lt, div-add-mod', suc-mul}
+use native.Mathlib.Numerals.{add-one}
 use native.Mathlib.Omega.{arith}
 use borrow.Author.Tests.{lt-ltb, le-ltb, ltb-true}
 use lib.Dec.{ltb}
@@ -13,11 +14,39 @@ use lib.Ieee.Scale.{finite}
 use Rattle.std.specs.Prelude.{Some, None}
 use Rattle.std.specs.Bool.{then_some}
 use Rattle.lists.proofs.Tests.{last_or}
+use Rattle.lists.proofs.Rows.{in-column, in-row}
 use Rattle.lists.specs.Lists.{first_not}
 use Rattle.vendor.specs.declared.Check.{Check}
+use Rattle.vendor.specs.declared.cells.Pixel.{Pixel}
 use Rattle.vendor.specs.declared.cells.Question.{Question}
 use Rattle.vendor.specs.Tests.{index_below, holds, holds_at}
+use Rattle.vendor.specs.Inner.{PixelPlaced}
 use Rattle.lists.proofs.Firsts.{first-none, first-here}
+
+-- ---- the pixels by rows
+
+-- a pixel's index from its row and column
+placed-index : {w : ℕ} {at : Pixel} → PixelPlaced w at → at.p ≡ at.y * w + at.x
+placed-index {w} {at} z = rw (z.column, z.row) (sym (div-add-mod' at.p w))
+
+-- its column is one of the row
+pub placed-column : {w : ℕ} {at : Pixel} → PixelPlaced w at → 1 ≤ w → at.x < w
+placed-column {w} {at} z some = rw z.column (mod-lt at.p some)
+
+-- a column of a row is a pixel
+placed : (w x y p : ℕ) → x < w → p ≡ y * w + x → PixelPlaced w (record { p = p; x = x; y = y })
+placed w x y p l e = record { column = sym (ap (λ n. n % w) e ∙ in-column w x y l); row = sym (ap (λ n. n / w) e ∙ in-row w x y l) }
+
+-- after the last pixel of a row comes the first of the next
+pub next_row : {w : ℕ} {at : Pixel} → PixelPlaced w at → 1 ≤ w → at.x + 1 ≡ w → PixelPlaced w (record { p = at.p + 1; x = 0; y = at.y + 1 })
+next_row {w} {at} z some last =
+    let rows : (at.y + 1) * w ≡ w + at.y * w = rw add-one (omega (arith, suc-mul at.y w)) in
+    placed w 0 (at.y + 1) (at.p + 1) some (omega (arith, placed-index z))
+
+-- after any other the next of its row
+pub next-column : {w : ℕ} {at : Pixel} → PixelPlaced w at → 1 ≤ w → (at.x + 1 ≡ w → ⊥) → PixelPlaced w (record { p = at.p + 1; x = at.x + 1; y = at.y })
+next-column {w} {at} z some inner =
+    placed w (at.x + 1) at.y (at.p + 1) (omega (arith, placed-column z some, inner)) (omega (arith, placed-index z))
 
 -- ---- what a loop has passed
 
@@ -25,6 +54,10 @@ use Rattle.lists.proofs.Firsts.{first-none, first-here}
 pub record Passed (n : ℕ) (p : ℕ → Bool) (i : ℕ) : Type 0 where
   pub within : i ≤ n
   pub before : (j : ℕ) → j < i → p j ≡ true
+
+-- at the start it has passed nothing
+pub passed_none : (n : ℕ) (p : ℕ → Bool) → Passed n p 0
+passed_none n p = record { within = omega arith; before = λ j l. absurd (not-suc-le-zero l) }
 
 -- one more of which p holds
 pub passed-next : {n : ℕ} {p : ℕ → Bool} {i : ℕ} → Passed n p i → i < n → p i ≡ true → Passed n p (i + 1)
@@ -63,3 +96,9 @@ pub asked-at : (q : Check) (left right : List ℕ) (question : Question) (map : 
     → b ≡ holds_at q left right question map p
 unfolding holds_at
 asked-at q left right question map p b v e same = rw (← same) e
+
+-- the same at a pixel with its column and row
+pub asked-placed : (q : Check) (left right : List ℕ) (question : Question) (map : List Float) (at : Pixel) (b : Bool) (v : Float) → PixelPlaced q.frame.w at
+    → b ≡ not (finite v) || holds q left right at.x at.y question v → v ≡ get_or map at.p nan
+    → b ≡ holds_at q left right question map at.p
+asked-placed q left right question map at b v z e same = asked-at q left right question map at.p b v (rw (z.column, z.row) at e) same

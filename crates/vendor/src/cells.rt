@@ -1,10 +1,10 @@
 // The cells of a vendor's map, each against one raw cost at a time.
-ghost use Rattle.std.specs.Prelude.{◌≡◌, not, ◌||◌, ◌*◌, ◌/◌, ◌%◌, ◌≤◌, ◌<◌, length};
+ghost use Rattle.std.specs.Prelude.{◌≡◌, not, ◌||◌, ◌+◌, ◌*◌, ◌^◌, ◌≤◌, ◌<◌, length};
 ghost use Rattle.std.specs.Float.Ieee.Scale.{finite};
 ghost use Rattle.vendor.specs.declared.cells.Question.TheVariants.{Unbeaten};
 ghost use Rattle.lists.specs.Lists.{first_not};
 ghost use Rattle.vendor.specs.Tests.{index_named, own_cost, is_fit, holds, holds_at};
-ghost use Rattle.vendor.specs.Inner.{Searched, Asked};
+ghost use Rattle.vendor.specs.Inner.{Searched, Asked, PixelPlaced};
 
 use crate::cost::Tables;
 use choices::subpixel::{Search, disparity_at};
@@ -17,6 +17,35 @@ use options::{BlockMatchOptions, RawCost};
 pub enum Question {
     Fit,
     Unbeaten(usize),
+}
+
+// A pixel of a map: its number by rows, its column and its row.
+#[derive(Clone, Copy)]
+struct Pixel {
+    p: usize,
+    x: usize,
+    y: usize,
+}
+
+impl Pixel {
+    // The next pixel by rows.
+    fn next(self, w: usize) -> Pixel
+        requires { PixelPlaced w self × (1 ≤ w) × (self.p + 1 < 2 ^ 64) }
+        ensures { (result.p ≡ self.p + 1) × PixelPlaced w result }
+    {
+        if self.x + 1 == w {
+            return Pixel {
+                p: self.p + 1,
+                x: 0,
+                y: self.y + 1,
+            };
+        }
+        Pixel {
+            p: self.p + 1,
+            x: self.x + 1,
+            y: self.y,
+        }
+    }
 }
 
 // The index of the disparity that a number is, if it is one of the searched range. Minus zero is 0.
@@ -72,17 +101,14 @@ impl Tables<'_> {
         !(own < cost)
     }
 
-    // What cell p of a map, with the number v, answers; one that is not valid passes.
-    fn cell_holds(self, p: usize, question: Question, v: f32) -> bool
-        requires { Asked self.room.now self.check self.left.now self.right.now question × (p < self.check.frame.w * self.check.frame.h) }
-        ensures { result ≡ (not (finite v) || holds self.entry.check self.entry.left.now self.entry.right.now (p % self.entry.check.frame.w) (p / self.entry.check.frame.w) question v) }
+    // What a cell at (x, y), with the number v, answers; one that is not valid passes.
+    fn cell_holds(self, x: usize, y: usize, question: Question, v: f32) -> bool
+        requires { Asked self.room.now self.check self.left.now self.right.now question × (x < self.check.frame.w) }
+        ensures { result ≡ (not (finite v) || holds self.entry.check self.entry.left.now self.entry.right.now x y question v) }
     {
         if !is_finite(v) {
             return true;
         }
-        let w = self.check.frame.w;
-        let x = p % w;
-        let y = p / w;
         match question {
             Question::Fit => is_fit(self.check.least, self.own_cost(x, y, v)),
             Question::Unbeaten(k) => self.is_unbeaten(x, y, k, v),
@@ -94,10 +120,13 @@ impl Tables<'_> {
         requires { Asked self.room.now self.check self.left.now self.right.now question × (length map.now ≡ self.check.frame.w * self.check.frame.h) × (limit ≤ self.check.frame.w * self.check.frame.h) }
         ensures { result ≡ first_not limit (holds_at self.entry.check self.entry.left.now self.entry.right.now question map.now) }
     {
-        for (p, v) in map[..limit].iter().enumerate() {
-            if !self.cell_holds(p, question, *v) {
-                return p;
+        // Column and row are counted along, since a division for each cell takes longer than the rest of it.
+        let mut at = Pixel { p: 0, x: 0, y: 0 };
+        for v in &map[..limit] {
+            if !self.cell_holds(at.x, at.y, question, *v) {
+                return at.p;
             }
+            at = at.next(self.check.frame.w);
         }
         limit
     }
