@@ -4,10 +4,10 @@ ghost use Rattle.numbers.specs.Root.{FirstRoot, FirstRoots};
 
 // The first root of each i from 256 to 1,023. It is made once and lent to all roots: a constant array is written out anew,
 // all 768 bytes of it, wherever the program names it.
-#[derive(Drop)]
+#[derive(Clone, Copy)]
 pub struct Firsts {
-    roots: [u8; 768],
-    ghost are_first: { FirstRoots roots },
+    pub roots: [u8; 768],
+    pub ghost are_first: { FirstRoots roots },
 }
 
 // The first roots: for each i from 256 to 1,023 the largest whole number whose square is at most 64·i.

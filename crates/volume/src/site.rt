@@ -3,7 +3,7 @@ ghost use Rattle.std.specs.Prelude.{◌≡◌, true, ◌*◌, IfOk};
 ghost use Rattle.refusals.specs.Answered.{first_of};
 ghost use Rattle.refusals.specs.Given.{number_in};
 ghost use Rattle.volume.specs.Metres.{is_near};
-ghost use Rattle.volume.specs.Rectangle.{near_site, good_cell, cells_of, shape_of};
+ghost use Rattle.volume.specs.Rectangle.{near_site, good_cell, columns_of, rows_of, cells_of, shape_of};
 ghost use Rattle.volume.specs.Heights.{height_of};
 ghost use Rattle.volume.specs.Outcome.{site_rows};
 ghost use Rattle.volume.specs.Inner.{SiteFits, fall_of};
@@ -91,6 +91,32 @@ impl Site {
             high: self.bottom,
             cell: self.cell,
         }
+    }
+
+    // How many cells a row has, how many rows there are, and all cells: of any near site with a good cell, also of one that is refused
+    // for its sides or for too many cells.
+    pub fn columns(self) -> usize
+        requires near { near_site self ≡ true }
+        requires cell { good_cell self ≡ true }
+        ensures { result ≡ columns_of self }
+    {
+        self.across().cells()
+    }
+
+    pub fn rows(self) -> usize
+        requires near { near_site self ≡ true }
+        requires cell { good_cell self ≡ true }
+        ensures { result ≡ rows_of self }
+    {
+        self.down().cells()
+    }
+
+    pub fn cells(self) -> usize
+        requires near { near_site self ≡ true }
+        requires cell { good_cell self ≡ true }
+        ensures { result ≡ cells_of self }
+    {
+        self.columns() * self.rows()
     }
 }
 
