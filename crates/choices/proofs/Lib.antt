@@ -1,4 +1,5 @@
 -- The lemmas that several functions' proofs cite, and what the walks find.
+pub mod Indices
 pub mod Signed
 pub mod Sides
 pub mod Columns

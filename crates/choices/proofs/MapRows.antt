@@ -22,7 +22,7 @@ use Rattle.choices.specs.declared.block.Seen.{Seen}
 use Rattle.choices.specs.declared.block.Seen.TheVariants.{Own, Turned}
 use Rattle.choices.specs.declared.subpixel.Search.{Search}
 use Rattle.choices.specs.Block.{costs_of, block_choice, block_cell}
-use Rattle.choices.specs.Seen.{seen_as, seen_cell, column_costs, MapIn}
+use Rattle.choices.specs.Seen.{seen_as, seen_cell, column_costs, MapIn, RowIn}
 use Rattle.choices.specs.RowChoice.{column_cell, chosen_at}
 
 -- ---- a cell of the map
@@ -130,6 +130,14 @@ marked-last f k e out part mark l long done made dark marked =
     let marks : replicate (e - k) nan ≡ list_of (e - k) (λ i. f (k + i)) = sym (list_of-const (e - k) nan) ∙ list_of-same (e - k) _ _ (λ i _. sym (marked (k + i) (omega arith))) in
     rw (done, made, dark, drop_of_length-le (drop k out) rest, append-nil (replicate (e - k) nan), marks)
     (sym (list_of-split k (e - k) f) ∙ ap (λ n. list_of n f) back)
+
+-- a row inside the frame is one of the map's
+pub row-of-map : (w h r y : ℕ) (seen : Seen) (search : Search) (raw : List Float) → MapIn w h r search raw → y < h - r → RowIn (record { w = w; h = h; y = y; seen = seen }) search raw
+row-of-map w h r y seen search raw z l =
+    record {
+      sizes = record { wide = z.wide; high = z.high; inside = omega arith; some = z.some; few = z.few; close = z.close };
+      planes = z.planes;
+    }
 
 -- where the rows inside the frame begin and end
 pub record Bands (w h r : ℕ) : Type 0 where

@@ -20,7 +20,7 @@ use Rattle.options.specs.Costs.{stored}
 use Rattle.options.specs.Frame.{within}
 use Rattle.options.proofs.Frames.{within-not}
 use Rattle.costs.specs.Raw.{pair_cost, shifted_cost}
-use Rattle.costs.specs.Rooms.{RoomReady, WindowsInLine}
+use Rattle.costs.specs.Rooms.{RoomReady, Pair, WindowsInLine}
 use Rattle.costs.specs.declared.plane.Span.{Span}
 use Rattle.costs.specs.Span.{window_span}
 use Rattle.costs.specs.Volume.{row_cells}
@@ -50,6 +50,18 @@ further x x' i s e = apart-is (x + i) (x' + i) s (go s (apart-says x x' s e))
     go : (s : ℤ) → Apart x s x' → Apart (x + i) s (x' + i)
     go (pos d) e = omega arith
     go (negsuc d) e = omega arith
+
+-- one of the columns of a line
+pub lined-pair : {room : List ℕ} {w h r x x' y n : ℕ} → WindowsInLine room w h r x x' y n → (i : ℕ) → i < n → Pair room w h r (x + i) (x' + i) y
+lined-pair p i l = record {
+  s = p.s;
+  a = p.a;
+  b = p.b;
+  held = p.held;
+  first = record { left = omega (arith, p.left); right = omega (arith, p.right); top = p.top; bottom = p.bottom };
+  second = record { left = omega (arith, p.left'); right = omega (arith, p.right'); top = p.top; bottom = p.bottom };
+  apart = further _ _ i p.s p.apart;
+}
 
 -- ---- the span
 

@@ -27,6 +27,17 @@ unfolding is_nan
 read_back true = refl
 read_back false = refl
 
+-- what a semi-global choice that keeps its holes makes of the pixel before it: the mark stays (W-207, docs/W-207-begun.patch, which has it in `choices`)
+abbrev pub unless_marked : Cell → Cell → Cell
+unless_marked Mark chosen = Mark
+unless_marked (At d) chosen = chosen
+
+-- and decides the choice
+pub kept-open : (t : Bool) (chosen : Cell) → unless_marked (cell_of (in_buffer (cond t Mark zero-cell))) chosen ≡ cond t Mark chosen
+unfolding is_nan
+kept-open true chosen = refl
+kept-open false chosen = refl
+
 -- one more raw cost
 one_more : (t : Bool) (c : RawCost) → opened_by c (cond t Mark zero-cell) ≡ cond (t && is_blank c) Mark zero-cell
 one_more true Blank = refl
@@ -53,7 +64,7 @@ module _ (raw : List Float) (area k : ℕ) (inside : k * area + area ≤ length 
   one-plane : k * area + area - k * area ≡ area
   one-plane = omega arith
 
-  plane-length : length (plane_of raw area k) ≡ area
+  pub plane-length : length (plane_of raw area k) ≡ area
   plane-length = rw one-plane (length-take-le area (drop (k * area) raw) (rw length-drop (omega arith)))
 
   plane-at : (p : ℕ) → p < area → get_or (plane_of raw area k) p nan ≡ get_or raw (k * area + p) nan

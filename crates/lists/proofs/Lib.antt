@@ -2,6 +2,8 @@
 pub mod Lists
 pub mod Tests
 pub mod Firsts
+pub mod Walks
+pub mod Clearing
 pub mod Rows
 pub mod Sums
 pub mod Sizes

@@ -42,6 +42,12 @@ module _ {A : Type 0} where
   list_of-const zero a = refl
   list_of-const (suc n) a = ap (λ l. a ∷ l) (list_of-const n a)
 
+  -- one element more, at the end
+  pub list_of-snoc : (n : ℕ) (g : ℕ → A) → list_of (suc n) g ≡ list_of n g ++ (g n ∷ [])
+  unfolding list_of
+  list_of-snoc zero g = refl
+  list_of-snoc (suc n) g = ap (λ l. g 0 ∷ l) (list_of-snoc n (λ k. g (suc k)))
+
   filled-suc : (n : ℕ) (g : ℕ → A) (d : List A) → n < length d → set (list_of n g ++ drop n d) n (g n) ≡ list_of (suc n) g ++ drop (suc n) d
   unfolding list_of
   filled-suc n g [] h = absurd (not-suc-le-zero h)

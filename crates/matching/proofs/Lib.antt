@@ -4,6 +4,7 @@ pub mod Lengths
 pub mod Ranged
 pub mod Blocks
 pub mod Turns
+pub mod Tail
 pub mod Outcomes
 pub mod Ranges
 pub mod SideMaps

@@ -1,6 +1,7 @@
 -- What stands at the front of a header: words, white space and comments, digits and numbers as the code holds them. Assumes nothing.
-use Rattle.std.proofs.Common.{◌≡◌, ℕ, ◌+◌, ◌-◌, ◌*◌, ◌<◌, ◌≤◌, min, zero-le, Bool, true, false, cond, List, [], ◌∷◌, length, get_or, take, drop, refl, ap, ◌∙◌, arith, length-take, le-leb, eq-eqb, ne_eqb}
+use Rattle.std.proofs.Common.{◌≡◌, ℕ, ◌+◌, ◌-◌, ◌*◌, ◌<◌, ◌≤◌, min, zero-le, Bool, true, false, cond, List, [], ◌∷◌, length, get_or, take, drop, refl, sym, ap, ◌∙◌, arith, length-take, le-leb, eq-eqb, ne_eqb}
 use Rattle.std.specs.Cmp.Lexicographic.{pointwise}
+use mathlib.Core.Bool.{true≢false}
 use mathlib.Core.Logic.{⊎_elim}
 use native.Mathlib.Numerals.{add-one}
 use lib.ListN.{drop_of_length-le}
@@ -19,6 +20,13 @@ byte_at : (s : List ℕ) (i : ℕ) → i < length s → drop i s ≡ get_or s i 
 byte_at s i h = rw add-one (drop-cons s i 0 h)
 
 -- ---- words
+
+-- a word that stands at the front is no longer than the bytes
+pub word-within : (word s : List ℕ) → starts_with word s ≡ true → length word ≤ length s
+unfolding starts_with
+word-within [] s e = zero-le
+word-within (c ∷ word) [] e = absurd (true≢false (sym e))
+word-within (c ∷ word) (b ∷ s) e = omega (arith, word-within word s (and_both (eqb b c) (starts_with word s) e).1)
 
 -- std's test of a word at the front is the definition's
 pub word_tested : (word s : List ℕ) → starts_with word s ≡ pointwise eqb (take (length word) s) word

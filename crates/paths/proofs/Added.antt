@@ -74,6 +74,10 @@ abbrev pub read_back : List ℤ → List ℤ
 read_back d = to_z w32 (of_z w32 (get_or d 0 (pos 0))) ∷ to_z w32 (of_z w32 (get_or d 1 (pos 0))) ∷ []
 
 module _ (k : ℕ) (l : k < 8) where
+  -- such steps are those of a direction
+  pub same-direction : let d = read_back (get_or directions k []) in Direction (get_or d 0 (pos 0)) (get_or d 1 (pos 0))
+  same-direction = let dir = is-direction k l in rw (unit-same _ dir.column, unit-same _ dir.row) dir
+
   pub same-walk : (w h count : ℕ) (p1 p2 : Float) → walk_along w h count p1 p2 (read_back (get_or directions k [])) ≡ walk_along w h count p1 p2 (get_or directions k [])
   same-walk w h count p1 p2 = let dir = is-direction k l in rw (unit-same _ dir.column, unit-same _ dir.row)
 

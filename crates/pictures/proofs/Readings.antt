@@ -1,6 +1,6 @@
 -- What a reading that is not refused has. Assumes nothing.
-use Rattle.std.proofs.Common.{◌≡◌, ℕ, false, ◌||◌, List, [], ◌∷◌, length, sym, ap, ◌∙◌, lit<}
-use lib.Ieee.{Float, is_nan}
+use Rattle.std.proofs.Common.{◌≡◌, ℕ, ◌*◌, true, false, ◌||◌, List, [], ◌∷◌, length, sym, refl, ap, ◌∙◌, lit<, eq-eqb}
+use lib.Ieee.{Float, nan, inf, fin, up, down, ne, is_nan}
 use Rattle.lists.proofs.Tests.{or-false}
 use Rattle.refusals.specs.Answered.{row, first_of}
 use Rattle.refusals.specs.Given.{number_back}
@@ -11,6 +11,15 @@ use Rattle.refusals.proofs.Outcomes.{answer-number}
 use Rattle.pictures.specs.Picture.{shape_rows}
 use Rattle.pictures.specs.Bilinear.{value_at, reading_rows, sample_of}
 use Rattle.pictures.proofs.Shapes.{shape-numbered}
+
+-- a NaN is what differs from itself
+pub nan-test : (x : Float) → ne x x ≡ is_nan x
+unfolding ne is_nan
+nan-test nan = refl
+nan-test (inf true) = refl
+nan-test (inf false) = refl
+nan-test (fin true m e) = rw (eq-eqb (m * up e * down e) (m * up e * down e) refl)
+nan-test (fin false m e) = rw (eq-eqb (m * up e * down e) (m * up e * down e) refl)
 
 -- what a reading that is not refused has
 pub record Readable (pic : List ℕ) (w h : ℕ) (xf yf : Float) : Type 0 where

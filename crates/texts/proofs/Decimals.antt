@@ -3,14 +3,32 @@ use Prim.Native.Nat.{ℕ, zero, suc, ◌+◌, ◌-◌, ◌*◌, ◌/◌, ◌%◌
 use mathlib.Core.Path.{◌≡◌, refl, ◌∙◌}
 use mathlib.Core.Bool.{Bool, true, false, cond}
 use mathlib.Core.List.{List, [], ◌∷◌, ◌++◌}
+use native.Mathlib.Numerals.{add-one}
 use native.Mathlib.Omega.{arith}
 use native.Mathlib.Nat.{lt_of_lt_of_le, pow-suc, pow-succ', mul_assoc, mul-le-mul_right}
-use lib.ListN.{length}
+use lib.ListN.{length, get_or, drop}
+use lib.Seq.{drop-cons}
 use lib.Dec.{leb, ltb}
-use borrow.Author.Tests.{lt-ltb, le-leb, ltb-true, leb-true}
+use borrow.Author.Tests.{lt-ltb, le-leb, lt-leb, ltb-true, leb-true}
 use Rattle.lists.proofs.Tests.{and_both}
 use Rattle.texts.specs.Digits.{digits, digit_byte, places_of, decimal_text, is_digit, all_digits, decimal_from, Numeral}
 use Rattle.texts.proofs.Digits.{length_digits}
+
+-- a byte below or above the digits spoils a word
+pub digits_low : (w : List ℕ) (i : ℕ) → i < length w → get_or w i 0 < 48 → all_digits (drop i w) ≡ false
+digits_low w i h e = rw (drop-cons w i 0 h, lt-leb 48 (get_or w i 0) e)
+
+-- a byte above them does too
+pub digits-high : (w : List ℕ) (i : ℕ) → i < length w → 48 ≤ get_or w i 0 → 57 < get_or w i 0 → all_digits (drop i w) ≡ false
+digits-high w i h l e = rw (drop-cons w i 0 h, le-leb 48 (get_or w i 0) l, lt-leb (get_or w i 0) 57 e)
+
+-- a digit is one more
+pub digits_more : (w : List ℕ) (i : ℕ) → i < length w → 48 ≤ get_or w i 0 → get_or w i 0 ≤ 57 → all_digits (drop i w) ≡ all_digits (drop (i + 1) w)
+digits_more w i h l e = rw (add-one, drop-cons w i 0 h, le-leb 48 (get_or w i 0) l, le-leb (get_or w i 0) 57 e)
+
+-- a byte is read as one digit more of the number
+pub decimal-more : (n : ℕ) (w : List ℕ) (i : ℕ) → i < length w → decimal_from n (drop i w) ≡ decimal_from (n * 10 + (get_or w i 0 - 48)) (drop (i + 1) w)
+decimal-more n w i h = rw (add-one, drop-cons w i 0 h)
 
 -- digits write a number below the power of ten of their count
 pub decimal-lt : (w : List ℕ) (n : ℕ) → all_digits w ≡ true → decimal_from n w < (n + 1) * 10 ^ length w

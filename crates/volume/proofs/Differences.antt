@@ -14,6 +14,7 @@ use mir.Val.{SFits, to_z, of_z}
 use mir.ValLaws.{to_z-of_z}
 use Rattle.lists.proofs.Tests.{and_both}
 use Rattle.lists.proofs.Sizes.{abs_neg, sum-size, small-fits}
+use Rattle.volume.specs.Metres.{size_most, is_near}
 use Rattle.volume.specs.Rectangle.{or_zero, above}
 use Rattle.volume.specs.Heights.{is_between}
 use Rattle.volume.specs.Inner.{Near}
@@ -97,6 +98,16 @@ near_fits v l = small-fits v (omega arith)
 -- and so does their difference
 pub difference-fits : (a b : ℤ) → Near a → Near b → SFits w64 (a -ℤ b)
 difference-fits a b l m = small-fits (a -ℤ b) (omega (arith, sum-size a (neg_ℤ b), abs_neg b))
+
+-- the test by two comparisons
+pub near-not : (v : ℤ) → lt_z v (negsuc 99999) ≡ true → is_near v ≡ false
+near-not (pos n) e = absurd (true≢false (sym e))
+near-not (negsuc n) e = lt-leb (suc n) size_most (omega (arith, ltb-true 99999 n e))
+
+-- where the first does not hold, it is the second
+pub near-is : (v : ℤ) → lt_z v (negsuc 99999) ≡ false → le_z v (pos size_most) ≡ is_near v
+near-is (pos n) e = refl
+near-is (negsuc n) e = sym (le-leb (suc n) size_most (omega (arith, ltb-false 99999 n e)))
 
 near-inside : (low high v : ℤ) → Near low → Near high → le_z low v ≡ true → lt_z v high ≡ true → Near v
 near-inside low (pos h) (pos n) l m e f = omega (arith, ltb-true n h f)

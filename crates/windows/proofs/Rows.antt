@@ -1,15 +1,23 @@
 -- A part of a table's row, filled from the part of the row above it. Assumes nothing.
-use Prim.Native.Nat.{ℕ, ◌+◌, ◌-◌, ◌≤◌, ◌<◌}
+use Prim.Native.Nat.{ℕ, suc, ◌+◌, ◌-◌, ◌≤◌, ◌<◌}
 use mathlib.Core.Path.{◌≡◌, refl, sym, ap, ap₂, ◌∙◌}
-use mathlib.Core.List.{List, ◌++◌}
+use mathlib.Core.List.{List, [], ◌∷◌, ◌++◌, append_assoc}
+use native.Mathlib.Numerals.{add-one}
 use native.Mathlib.Omega.{arith}
-use lib.ListN.{length, get_or, take, drop, set, length-drop}
-use lib.Seq.{length-take-le, get_or-take, get_or-drop}
-use Rattle.lists.proofs.Lists.{list_of-length, list_of-same, list_of-split, filled_next, filled-end}
+use lib.ListN.{length, get_or, take, drop, set, length-append, length-drop}
+use lib.Seq.{length-take-le, get_or-take, get_or-drop, drop-cons, set_at}
+use Rattle.lists.proofs.Lists.{list_of-length, list_of-snoc, list_of-same, list_of-split, filled_next, filled-end}
 use Rattle.lists.specs.Lists.{list_of}
 use Rattle.lists.specs.Sums.{sum_to}
 use Rattle.windows.specs.Table.{next_row}
 use Rattle.windows.specs.Parts.{sums_below}
+
+-- a store of the next value: after `p` and the first n values of g, with the rest of `d`, at the place k that follows them
+pub store-next : (p d : List ℕ) (g : ℕ → ℕ) (n k v : ℕ) → length p + n ≡ k → k < length d → v ≡ g n
+    → set (p ++ list_of n g ++ drop k d) k v ≡ p ++ list_of (n + 1) g ++ drop (k + 1) d
+store-next p d g n k v at h e =
+    rw (add-one n, add-one k, list_of-snoc, drop-cons d k 0 h, set_at (p ++ list_of n g) (get_or d k 0) (drop (suc k) d) v k (rw (length-append, list_of-length) at), e)
+    (sym (ap (λ l. l ++ drop (suc k) d) (sym (append_assoc p (list_of n g) (g n ∷ []))) ∙ append_assoc (p ++ list_of n g) (g n ∷ []) (drop (suc k) d)))
 
 pub below-length : (f : ℕ → ℕ) (above : List ℕ) → length (sums_below f above) ≡ length above
 unfolding sums_below

@@ -1,5 +1,5 @@
 -- A signed shift, and a column moved by it. Assumes nothing.
-use Prim.Native.Nat.{ℕ, suc, ◌+◌, ◌*◌, ◌-◌, ◌≤◌, ◌<◌, zero-le, min}
+use Prim.Native.Nat.{ℕ, zero, suc, ◌+◌, ◌*◌, ◌-◌, ◌≤◌, ◌<◌, zero-le, min}
 use mathlib.Core.Path.{◌≡◌, sym, ap, subst, fun_ext}
 use mathlib.Core.Bool.{true, false, true≢false}
 use mathlib.Core.List.{List}
@@ -23,6 +23,12 @@ none-minus z = +ℤ_idl (neg_ℤ z)
 pub non-neg : (z : ℤ) → lt_z z (pos 0) ≡ false → T (non_neg z)
 non-neg (pos n) e = tt
 non-neg (negsuc n) e = absurd (true≢false e)
+
+-- a number below 0 has an opposite that is not
+pub neg-non-neg : (z : ℤ) → lt_z z (pos 0) ≡ true → T (non_neg (neg_ℤ z))
+neg-non-neg (pos zero) e = tt
+neg-non-neg (pos (suc n)) e = absurd (omega (arith, ltb-true (suc n) 0 e))
+neg-non-neg (negsuc n) e = tt
 
 -- ---- the columns that both rows have
 
