@@ -55,7 +55,7 @@ fn is_point(c: f32) -> bool
     is_finite(c) && 0.0 < c
 }
 
-// How many cells give a point. A loop, since a filtered count takes three times as long.
+// How many cells give a point. A loop, since a filtered count takes longer.
 fn points_in(cells: &[f32]) -> usize
     ensures { result ≡ points_in cells.now }
 {

@@ -115,7 +115,7 @@ pub new : {Cells : Type 0} (w h : ℕ) (cells : Cells) (w₁ w₂ h₁ h₂ : �
     → (w₁ ≡ w₂) × (h₁ ≡ h₂) × (cells₁ ≡ cells₂)
 new w h cells w₁ w₂ h₁ h₂ cells₁ cells₂ e e' = (same_outcome e.0 e'.0, same_outcome e.1.0 e'.1.0, same_outcome e.1.1 e'.1.1)
 
--- the map, by its view: `get`, `valid`, `valid_count` and `valid_range` answer what `cell_at`, `valid_at`, `count_valid` and `range_valid` do
+-- the map, by its view: `get`, `valid`, `valid_count` and `valid_range` answer what the definitions say of its size and cells
 pub get : (w h : ℕ) (cells : List Float) (x y : ℕ) (r r' : Result Cell Refusal) → given_back r ≡ got_at w h cells x y → given_back r' ≡ got_at w h cells x y → (r ≡ r') × (given_back r ≡ given_back r')
 get w h cells x y r r' = same-given
 
