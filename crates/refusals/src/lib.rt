@@ -79,8 +79,7 @@ impl fmt::Display for Refusal {
             Refusal::BlockTooLarge => "the block's side is over 31",
             Refusal::CountNotPositive => "the number of disparities is zero or negative",
             Refusal::CountTooLarge => "the number of disparities is over 256",
-            Refusal::PictureSmallerThanBlock =>
-                "a picture or map is narrower or lower than the block",
+            Refusal::PictureSmallerThanBlock => "the pictures are narrower or lower than the block",
             Refusal::FirstOutOfRange => "the first disparity is outside -4,096 to 4,096",
             Refusal::PenaltyOutOfRange => "a penalty is not finite or outside 0 to 1,024",
             Refusal::PenaltiesReversed => "the penalty sgm_p2 is below sgm_p1",
