@@ -120,7 +120,7 @@ impl Tables<'_> {
         requires { Asked self.room.now self.check self.left.now self.right.now question × (length map.now ≡ self.check.frame.w * self.check.frame.h) × (limit ≤ self.check.frame.w * self.check.frame.h) }
         ensures { result ≡ first_not limit (holds_at self.entry.check self.entry.left.now self.entry.right.now question map.now) }
     {
-        // Column and row are counted along, since a division for each cell takes longer than the rest of it.
+        // Column and row are counted along, since a division for each cell shows where pictures are narrow.
         let mut at = Pixel { p: 0, x: 0, y: 0 };
         for v in &map[..limit] {
             if !self.cell_holds(at.x, at.y, question, *v) {
